@@ -4,6 +4,7 @@ use Rattle.std.specs.Map.{lookup}
 use Rattle.pci_command.specs.declared.op_id.OpId.{OpId}
 use Rattle.pci_command.specs.Same.{same_op, same_space}
 use Rattle.board_model.specs.declared.word.Word.{Word}
+use Rattle.board_model.specs.Ways.{Dword}
 
 -- the value of an operation, where it has one
 abbrev pub value_of : {V : Type 0} → OpId → List (OpId × V) → Option V
@@ -17,6 +18,10 @@ list_in (Some xs) = xs
 -- the numbers of an operation; none where it has none
 abbrev pub numbers_of : OpId → List (OpId × List ℕ) → List ℕ
 numbers_of o entries = list_in (value_of o entries)
+
+-- a dword by which landings are noted, as histories have it
+abbrev pub dword : Word → Dword
+dword word = record { target = word.target; space = word.space; address = word.address }
 
 -- the same dword of the same target
 abbrev pub same_word : Word → Word → Bool

@@ -19,9 +19,9 @@ use Rattle.history_model.specs.declared.event.Event.TheVariants.{Act, Arrive}
 use Rattle.history_model.specs.Words.{Landing, through, without, brings, landings_at, landings_in, landings_of, brought}
 use Rattle.history_model.proofs.facts.RequestLemmas.{same_op_true}
 use Rattle.board_model.specs.declared.word.Word.{Word}
-use Rattle.audit_clocks.specs.Tables.{same_word, value_of, writes_in, Lands, Puts}
+use Rattle.audit_clocks.specs.Tables.{same_word, value_of, writes_in, Lands, Puts, dword}
 use Rattle.audit_landings.specs.Hits.{hits, request_hits, found_hits, lands, place_hits, event_hits, few_of, count_of, Parted}
-use Rattle.audit_landings.specs.Hits.{op_of_landing, dword}
+use Rattle.audit_landings.specs.Hits.{op_of_landing}
 
 -- none so far, and one more
 pub hits_none : (o : OpId) (target : ℕ) (space : Space) (at : ℕ) (old : List (Word × List OpId)) → Lands old old (λ word. hits word o target space at 0)

@@ -12,9 +12,9 @@ use Rattle.history_model.specs.Knowledge.{is_land_of, has_landed}
 use Rattle.history_model.specs.Runs.{history_of}
 use Rattle.board_model.specs.declared.word.Word.{Word}
 use Rattle.audit_clocks.specs.Rows.{number, own}
-use Rattle.audit_clocks.specs.Tables.{value_of, numbers_of, writes_in, Lands}
+use Rattle.audit_clocks.specs.Tables.{value_of, numbers_of, writes_in, Lands, dword}
 use Rattle.audit_landings.specs.declared.told.Told.{Told}
-use Rattle.audit_landings.specs.Hits.{op_of_landing, dword, few_of, count_of, event_hits, or_place, whole_at, Landed, Parted}
+use Rattle.audit_landings.specs.Hits.{op_of_landing, few_of, count_of, event_hits, or_place, whole_at, Landed, Parted}
 use Rattle.audit_landings.specs.Told.{told_by, ToldOf, IsTold, ToldsFor}
 use Rattle.audit_landings.specs.Notes.{LandingNotes, no_landings, AreLandings, Happened, SameLandings}
 use Rattle.audit_landings.proofs.HitLemmas.{event_hit}

@@ -8,7 +8,7 @@ use Rattle.board_model.specs.declared.bridge.Place.{Place}
 use Rattle.board_model.specs.declared.bridge.Place.TheVariants.{Target, Header, Lane, Nobody}
 use Rattle.board_model.specs.declared.board.Board.{Board}
 use Rattle.board_model.specs.Requests.{request_of}
-use Rattle.board_model.specs.Ways.{Dword, address_in}
+use Rattle.board_model.specs.Ways.{address_in}
 use Rattle.history_model.specs.declared.event.Step.{Step}
 use Rattle.history_model.specs.declared.event.Step.TheVariants.{Land, Part, Read, Accept, Latch, Take, Stall, MasterAbort, TargetAbort}
 use Rattle.history_model.specs.declared.event.Event.{Event}
@@ -21,10 +21,6 @@ use Rattle.audit_clocks.specs.Tables.{value_of, same_word}
 -- the write of a data phase that landed
 abbrev pub op_of_landing : Landing → OpId
 op_of_landing landing = landing.op
-
--- a dword by which landings are noted, as histories have it
-abbrev pub dword : Word → Dword
-dword word = record { target = word.target; space = word.space; address = word.address }
 
 -- How much went through.
 

@@ -5,9 +5,9 @@ use Rattle.board_model.specs.declared.board.Board.{Board}
 use Rattle.history_model.specs.declared.event.Event.{Event}
 use Rattle.history_model.specs.Words.{landed, through}
 use Rattle.board_model.specs.declared.word.Word.{Word}
-use Rattle.audit_clocks.specs.Tables.{value_of, writes_in}
+use Rattle.audit_clocks.specs.Tables.{value_of, writes_in, dword}
 use Rattle.audit_landings.specs.declared.told.Told.{Told}
-use Rattle.audit_landings.specs.Hits.{count_of, op_of_landing, dword, whole_at}
+use Rattle.audit_landings.specs.Hits.{count_of, op_of_landing, whole_at}
 use Rattle.audit_landings.specs.Told.{ToldsFor}
 
 -- what is noted of the landings of a run

@@ -20,9 +20,9 @@ use Rattle.law_audit.proofs.StartLemmas.{start_stays}
 use Rattle.law_audit.proofs.OrderLemmas.{earlier_known, landings_know}
 use Rattle.law_audit.proofs.WrittenLemmas.{landings_write}
 use Rattle.board_model.specs.declared.word.Word.{Word}
-use Rattle.audit_clocks.specs.Tables.{writes_in}
+use Rattle.audit_clocks.specs.Tables.{writes_in, dword}
 use Rattle.audit_clocks.specs.Tracks.{in_order_at}
-use Rattle.audit_landings.specs.Hits.{op_of_landing, dword}
+use Rattle.audit_landings.specs.Hits.{op_of_landing}
 use Rattle.audit_landings.specs.Told.{ToldsFor}
 use Rattle.audit_landings.specs.Notes.{LandingNotes, AreLandings}
 use Rattle.audit_landings.proofs.Laws.{whole_has, same_stand, tolds_over}

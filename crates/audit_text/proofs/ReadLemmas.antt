@@ -22,10 +22,10 @@ use Rattle.law_fresh.proofs.Laws.{before_in}
 use Rattle.law_audit.specs.Clocks.{Clocks, clocks_of, taught_by, word_tells}
 use Rattle.board_model.specs.declared.word.Word.{Word}
 use Rattle.audit_clocks.specs.Rows.{number}
-use Rattle.audit_clocks.specs.Tables.{value_of, numbers_of, writes_in}
+use Rattle.audit_clocks.specs.Tables.{value_of, numbers_of, writes_in, dword}
 use Rattle.audit_clocks.specs.Clocks.{ClockState}
 use Rattle.audit_text.specs.declared.readings.Reading.{Reading}
-use Rattle.audit_landings.specs.Hits.{op_of_landing, dword}
+use Rattle.audit_landings.specs.Hits.{op_of_landing}
 use Rattle.audit_landings.specs.Told.{told_by}
 use Rattle.audit_landings.proofs.Laws.{word_told}
 use Rattle.audit_text.specs.Notes.{Notes, flat, read_of, word_read, read_in, ReadSo, Reads, Gets, EndsSo, Ends, ended_of}

@@ -18,8 +18,8 @@ use Rattle.history_model.specs.declared.event.Event.TheVariants.{Act, Arrive}
 use Rattle.history_model.specs.Words.{Landing, through, without, brings, brought}
 use Rattle.history_model.specs.Knowledge.{is_landing_of}
 use Rattle.board_model.specs.declared.word.Word.{Word}
-use Rattle.audit_clocks.specs.Tables.{same_word}
-use Rattle.audit_landings.specs.Hits.{dword, op_of_landing, few_of, count_of, hits, found_hits, place_hits, event_hits, lands}
+use Rattle.audit_clocks.specs.Tables.{same_word, dword}
+use Rattle.audit_landings.specs.Hits.{op_of_landing, few_of, count_of, hits, found_hits, place_hits, event_hits, lands}
 use Rattle.audit_landings.proofs.Laws.{event_hit}
 use Rattle.draw_told.specs.declared.touches.Touch.{Touch}
 use Rattle.draw_told.specs.Told.{landing_event}

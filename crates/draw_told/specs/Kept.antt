@@ -17,8 +17,8 @@ use Rattle.history_model.specs.declared.event.Event.TheVariants.{Act, Arrive}
 use Rattle.history_model.specs.Words.{through, without, brings}
 use Rattle.history_model.specs.Knowledge.{is_land_of}
 use Rattle.board_model.specs.declared.word.Word.{Word}
-use Rattle.audit_clocks.specs.Tables.{value_of, list_in, same_word}
-use Rattle.audit_landings.specs.Hits.{dword, few_of, count_of, lands, Parted}
+use Rattle.audit_clocks.specs.Tables.{value_of, list_in, same_word, dword}
+use Rattle.audit_landings.specs.Hits.{few_of, count_of, lands, Parted}
 use Rattle.draw_told.specs.declared.touches.Touch.{Touch}
 use Rattle.draw_told.specs.Told.{is_read_of, read_event, land_event, landing_event, spans_of, is_loud, is_key}
 use Rattle.draw_told.specs.declared.told.Span.{Span}

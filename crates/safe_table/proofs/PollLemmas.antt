@@ -13,7 +13,7 @@ use Rattle.safe_model.specs.Raisers.{phases_to, is_met_by, is_whole, is_plain, b
 use Rattle.safe_model.specs.Clocks.{Table, greater, clock_of, clock_with}
 use Rattle.law_safe.specs.largest.Tests.{is_before, is_reached, lands_no_more, writes_of, writes_before, Wish, wish_of, raises, is_clean, is_firm, is_told, is_left_out, raisers, least, program_of, known_by_all, told_to, most_known}
 use Rattle.law_safe.proofs.largest.TestLemmas.{any_both}
-use Rattle.audit_landings.specs.Hits.{dword}
+use Rattle.audit_clocks.specs.Tables.{dword}
 use Rattle.safe_table.specs.declared.polls.awaited.Awaited.{Awaited}
 use Rattle.safe_table.specs.declared.writers.write.WordWrite.{WordWrite}
 use Rattle.safe_table.specs.Rows.{ProgramRows, table_of, KeepsPolls}

@@ -28,9 +28,8 @@ use Rattle.safe_model.specs.Ops.{ops_from, ops_by}
 use Rattle.safe_model.specs.Raisers.{same_dword, phases_for, phases_in, phases_to}
 use Rattle.law_safe.specs.largest.Tests.{brings, writes_of, is_last}
 use Rattle.law_safe.proofs.said.ApartLemmas.{InRow, in_row}
-use Rattle.audit_clocks.specs.Tables.{list_in, same_word, found_in, TakesWord, PutsWord}
+use Rattle.audit_clocks.specs.Tables.{list_in, same_word, found_in, TakesWord, PutsWord, dword}
 use Rattle.audit_clocks.proofs.TableLemmas.{same_word_true}
-use Rattle.audit_landings.specs.Hits.{dword}
 use Rattle.safe_table.specs.declared.writers.write.WordWrite.{WordWrite}
 use Rattle.safe_table.specs.Writes.{op_in, IsWordWrite, AreWrites, writes_at, ListsWrites, is_none_of, kept_for, kept_of, kept_by, Adds}
 

@@ -11,8 +11,7 @@ use Rattle.history_model.specs.Knowledge.{is_write, words_named}
 use Rattle.law_lanes.specs.order.Order.{is_posted_op}
 use Rattle.safe_model.specs.Raisers.{same_dword, phases_in, phases_to}
 use Rattle.law_safe.specs.largest.Tests.{writes_of, is_last}
-use Rattle.audit_clocks.specs.Tables.{list_in, found_in}
-use Rattle.audit_landings.specs.Hits.{dword}
+use Rattle.audit_clocks.specs.Tables.{list_in, found_in, dword}
 use Rattle.safe_table.specs.declared.writers.write.WordWrite.{WordWrite}
 
 -- the operation of a write that is kept

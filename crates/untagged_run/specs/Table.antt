@@ -6,7 +6,7 @@ use Rattle.board_model.specs.declared.board.Board.{Board}
 use Rattle.history_model.specs.declared.event.Event.{Event}
 use Rattle.history_model.specs.World.{same_direction}
 use Rattle.history_model.specs.Knowledge.{Reading}
-use Rattle.audit_landings.specs.Hits.{dword}
+use Rattle.audit_clocks.specs.Tables.{dword}
 use Rattle.law_untagged.specs.Origins.{origins_of}
 use Rattle.untagged_run.specs.Flat.{flat}
 use Rattle.untagged_run.specs.declared.got.Got.{Got}

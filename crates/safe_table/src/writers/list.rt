@@ -2,7 +2,7 @@ ghost use Rattle.std.specs.Prelude.{◌≡◌, ◌<◌, ◌≤◌, ◌^◌, IfSo
 ghost use Rattle.board_model.specs.Requests.{is_posted};
 ghost use Rattle.board_model.specs.Ways.{dwords_from};
 ghost use Rattle.board_tree.specs.Decodable.{IsDecodable};
-ghost use Rattle.audit_landings.specs.Hits.{dword};
+ghost use Rattle.audit_clocks.specs.Tables.{dword};
 ghost use Rattle.safe_model.specs.Ops.{ops_by, ops_from};
 ghost use Rattle.safe_table.specs.Writes.{words_from, kept_for, kept_of, kept_by, Adds};
 

@@ -29,8 +29,7 @@ impl Model for Words {
 impl Words {
     ghost use Rattle.std.specs.Prelude.{IfOk, OnOk, if◌then◌else◌, [], ◌∷◌};
     ghost use Rattle.board_model.specs.declared.board.Board.{Board};
-    ghost use Rattle.audit_clocks.specs.Tables.{same_word};
-    ghost use Rattle.audit_landings.specs.Hits.{dword};
+    ghost use Rattle.audit_clocks.specs.Tables.{same_word, dword};
     ghost use Rattle.law_safe.specs.largest.Tests.{writes_of};
     ghost use Rattle.safe_table.specs.Writes.{writes_at, Adds, AreWrites, ListsWrites};
 

@@ -4,10 +4,9 @@ use Rattle.std.proofs.lemmas.Bool.Decides.{nat_tests}
 use Rattle.pci_command.specs.declared.command.Space.{Space}
 use Rattle.pci_command.specs.declared.command.Space.TheVariants.{Mem, Io, Cfg}
 use Rattle.pci_command.specs.Same.{same_space}
-use Rattle.audit_clocks.specs.Tables.{list_in, same_word, found_in, TakesWord, PutsWord}
+use Rattle.audit_clocks.specs.Tables.{list_in, same_word, found_in, TakesWord, PutsWord, dword}
 use Rattle.audit_clocks.proofs.TableLemmas.{same_word_true}
 use Rattle.board_model.specs.declared.word.Word.{Word}
-use Rattle.audit_landings.specs.Hits.{dword}
 use Rattle.untagged_check.specs.declared.index.entry.Write.{Write}
 use Rattle.untagged_check.specs.index.Entries.{Listing, pushed}
 use Rattle.untagged_check.specs.index.Kept.{Writes}

@@ -10,9 +10,8 @@ use Rattle.board_model.specs.declared.agents.Master.{Master}
 use Rattle.board_model.specs.declared.board.Board.{Board}
 use Rattle.board_model.specs.Ways.{Dword}
 use Rattle.history_model.specs.Knowledge.{is_write, words_named}
-use Rattle.audit_clocks.specs.Tables.{value_of}
+use Rattle.audit_clocks.specs.Tables.{value_of, dword}
 use Rattle.board_model.specs.declared.word.Word.{Word}
-use Rattle.audit_landings.specs.Hits.{dword}
 use Rattle.safe_model.specs.Raisers.{same_dword}
 use Rattle.safe_model.specs.Ops.{ops_from, ops_by}
 use Rattle.untagged_check.specs.declared.index.entry.Entry.{Entry}

@@ -8,7 +8,7 @@ use Rattle.pci_command.specs.declared.op_id.OpId.{OpId}
 use Rattle.board_model.specs.Ways.{Dword}
 use Rattle.audit_clocks.specs.Rows.{number}
 use Rattle.board_model.specs.declared.word.Word.{Word}
-use Rattle.audit_landings.specs.Hits.{dword}
+use Rattle.audit_clocks.specs.Tables.{dword}
 use Rattle.safe_model.specs.Raisers.{same_dword}
 use Rattle.untagged_check.specs.declared.index.entry.Entry.{Entry}
 use Rattle.untagged_check.specs.declared.index.entry.Write.{Write}

@@ -4,9 +4,8 @@ use Rattle.pci_command.specs.declared.op_id.OpId.{OpId}
 use Rattle.board_model.specs.declared.board.Board.{Board}
 use Rattle.board_model.specs.Ways.{Dword}
 use Rattle.history_model.specs.Knowledge.{is_write, words_named}
-use Rattle.audit_clocks.specs.Tables.{list_in, value_of, found_in}
+use Rattle.audit_clocks.specs.Tables.{list_in, value_of, found_in, dword}
 use Rattle.board_model.specs.declared.word.Word.{Word}
-use Rattle.audit_landings.specs.Hits.{dword}
 use Rattle.safe_model.specs.Raisers.{same_dword}
 use Rattle.untagged_check.specs.declared.index.entry.Write.{Write}
 use Rattle.untagged_check.specs.index.Entries.{Listing, first_in, pushed}

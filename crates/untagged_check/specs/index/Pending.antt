@@ -5,9 +5,8 @@ use Rattle.pci_command.specs.declared.op_id.OpId.{OpId}
 use Rattle.board_model.specs.declared.board.Board.{Board}
 use Rattle.history_model.specs.Knowledge.{is_write, words_named}
 use Rattle.audit_clocks.specs.Rows.{number}
-use Rattle.audit_clocks.specs.Tables.{value_of}
+use Rattle.audit_clocks.specs.Tables.{value_of, dword}
 use Rattle.board_model.specs.declared.word.Word.{Word}
-use Rattle.audit_landings.specs.Hits.{dword}
 use Rattle.safe_model.specs.Raisers.{same_dword}
 use Rattle.safe_model.specs.Ops.{ops_by}
 

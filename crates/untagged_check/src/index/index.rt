@@ -31,7 +31,7 @@ impl WriteIndex {
     ghost use Rattle.std.specs.Prelude.{ℕ, List, [], ◌∷◌, IfOk, OnOk};
     ghost use Rattle.pci_command.specs.declared.op_id.OpId.{OpId};
     ghost use Rattle.board_model.specs.declared.board.Board.{Board};
-    ghost use Rattle.audit_landings.specs.Hits.{dword};
+    ghost use Rattle.audit_clocks.specs.Tables.{dword};
     ghost use Rattle.untagged_check.specs.index.Kept.{Indexes, Writes};
     ghost use Rattle.untagged_check.specs.index.Pending.{first_pending};
 

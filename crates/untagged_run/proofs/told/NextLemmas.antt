@@ -32,8 +32,8 @@ use Rattle.law_audit.specs.Clocks.{own}
 use Rattle.law_fresh.proofs.Laws.{turn_is_there, ends_turn}
 use Rattle.board_model.specs.declared.word.Word.{Word}
 use Rattle.audit_clocks.specs.Rows.{number}
-use Rattle.audit_clocks.specs.Tables.{value_of, list_in, numbers_of, writes_in}
-use Rattle.audit_landings.specs.Hits.{dword, op_of_landing}
+use Rattle.audit_clocks.specs.Tables.{value_of, list_in, numbers_of, writes_in, dword}
+use Rattle.audit_landings.specs.Hits.{op_of_landing}
 use Rattle.audit_landings.specs.Notes.{LandingNotes, AreLandings, SameLandings}
 use Rattle.audit_landings.specs.Told.{told_by as tells_by, Tells, ToldsFor}
 use Rattle.audit_landings.proofs.Laws.{whole_has, tolds_over, word_told as landings_tell}

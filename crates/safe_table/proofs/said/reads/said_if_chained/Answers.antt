@@ -3,7 +3,7 @@ use Rattle.std.specs.List.{find}
 use Rattle.board_model.specs.declared.board.Board.{Board}
 use Rattle.safe_model.specs.Clocks.{Table}
 use Rattle.law_safe.specs.said.Said.{is_beside}
-use Rattle.audit_landings.specs.Hits.{dword}
+use Rattle.audit_clocks.specs.Tables.{dword}
 use Rattle.safe_table.specs.declared.writers.write.WordWrite.{WordWrite}
 use Rattle.safe_table.specs.Rows.{table_of}
 use Rattle.safe_table.specs.Writes.{op_in}

@@ -1,5 +1,5 @@
 use Rattle.std.proofs.Common.{arith}
-use Rattle.audit_landings.specs.Hits.{dword}
+use Rattle.audit_clocks.specs.Tables.{dword}
 use Rattle.safe_table.proofs.said.LandingLemmas.{left_more, left_ends}
 use Rattle.safe_table.proofs.said.values.all_left.Goals as goal
 

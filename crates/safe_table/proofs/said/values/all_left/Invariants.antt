@@ -1,4 +1,4 @@
-use Rattle.audit_landings.specs.Hits.{dword}
+use Rattle.audit_clocks.specs.Tables.{dword}
 use Rattle.safe_table.proofs.said.LandingLemmas.{LeftSo}
 use Rattle.safe_table.proofs.said.values.all_left.Given as goal
 

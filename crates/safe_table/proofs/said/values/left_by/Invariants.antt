@@ -1,7 +1,7 @@
 use Rattle.std.proofs.Common.{◌≡◌, fold, take}
 use Rattle.board_model.specs.device.Registers.{merge_of}
 use Rattle.history_model.specs.Words.{opens_as}
-use Rattle.audit_landings.specs.Hits.{dword}
+use Rattle.audit_clocks.specs.Tables.{dword}
 use Rattle.safe_table.proofs.said.values.left_by.Given as goal
 
 -- what the writes so far leave

@@ -1,6 +1,6 @@
 use Rattle.std.proofs.Common.{◌≡◌, sym, ap, subst, ◌∙◌}
 use Rattle.std.specs.List.{AllByRecursion}
-use Rattle.audit_landings.specs.Hits.{dword}
+use Rattle.audit_clocks.specs.Tables.{dword}
 use Rattle.safe_table.specs.Writes.{IsWordWrite}
 use Rattle.safe_table.specs.Landing.{joined}
 use Rattle.safe_table.proofs.said.values.value_of.Goals as goal

@@ -2,7 +2,7 @@ use Rattle.board_model.specs.declared.op.Op.{Op}
 use Rattle.board_model.specs.declared.op.Op.TheVariants.{CfgRead}
 use Rattle.safe_model.specs.Ops.{ops_from}
 use Rattle.std.proofs.Common.{◌+◌, drop}
-use Rattle.audit_landings.specs.Hits.{dword}
+use Rattle.audit_clocks.specs.Tables.{dword}
 use Rattle.safe_table.specs.Writes.{kept_of, kept_by}
 use Rattle.safe_table.proofs.WriteLemmas.{some_more, op_parts}
 use Rattle.safe_table.proofs.writers.list.list_program.Goals as goal

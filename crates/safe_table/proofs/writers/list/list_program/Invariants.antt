@@ -1,6 +1,6 @@
 use Rattle.std.proofs.Common.{drop}
 use Rattle.safe_model.specs.Ops.{ops_from}
-use Rattle.audit_landings.specs.Hits.{dword}
+use Rattle.audit_clocks.specs.Tables.{dword}
 use Rattle.safe_table.specs.Writes.{kept_by}
 use Rattle.safe_table.proofs.WriteLemmas.{Behind}
 use Rattle.safe_table.proofs.writers.list.list_program.Given as goal

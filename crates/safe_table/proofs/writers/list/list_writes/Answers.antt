@@ -5,7 +5,7 @@ use Rattle.board_model.specs.declared.board.Board.{Board}
 use Rattle.board_model.proofs.form_laws.Laws.{few_masters}
 use Rattle.board_tree.proofs.DecodableLemmas.{IsDecodable-valid}
 use Rattle.safe_model.specs.Ops.{ops_by, ops_from}
-use Rattle.audit_landings.specs.Hits.{dword}
+use Rattle.audit_clocks.specs.Tables.{dword}
 use Rattle.safe_table.specs.Writes.{kept_by, Adds}
 use Rattle.safe_table.proofs.WriteLemmas.{few_at, some_more, master_parts}
 use Rattle.safe_table.proofs.writers.list.list_writes.Goals as goal

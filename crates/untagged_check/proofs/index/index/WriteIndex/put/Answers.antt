@@ -1,5 +1,5 @@
 use Rattle.std.proofs.Common.{subst, [], ◌∷◌}
-use Rattle.audit_landings.specs.Hits.{dword}
+use Rattle.audit_clocks.specs.Tables.{dword}
 use Rattle.untagged_check.specs.index.Kept.{Writes}
 use Rattle.untagged_check.proofs.index.KeptLemmas.{put_back}
 use Rattle.untagged_check.proofs.index.index.WriteIndex.put.Goals as goal
