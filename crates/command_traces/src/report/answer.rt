@@ -1,4 +1,4 @@
-ghost use Rattle.std.specs.Prelude.{◌<◌, ◌^◌, length, IfOk, IfErr};
+ghost use Rattle.std.specs.Prelude.{◌≡◌, ◌<◌, ◌^◌, length, IfOk, IfErr};
 ghost use Rattle.history_model.specs.Runs.{Run, history_of};
 ghost use Rattle.command_traces.specs.Runs.{RefusesRun};
 ghost use Rattle.command_traces.specs.report.Answers.{AnswersReport, Reports};
@@ -9,8 +9,6 @@ use board_tree::Tree;
 use history_model::Event;
 use law_delivered::reads_return_what_was_left;
 use law_fresh::runs_are_fresh;
-use pci_command::{List, NoMemory};
-use program_input::TreeTrace;
 use program_status::Status;
 use run_report::{complete_runs_have_the_way_counts, counts_add_up, whole_report};
 use std::alloc::Global;
@@ -21,17 +19,15 @@ pub fn answer_report(alloc: Global, input: &[u8]) -> Result<Vec<u8>, Status>
     ensures ok { IfOk result (λ text. AnswersReport input.now text.items) }
     ensures err { IfErr result (RefusesRun input.now) }
 {
-    let TreeTrace { tree, events } = read_run(alloc, input)?;
-    match text_of_run(alloc, &tree, events.as_slice()) {
-        Ok(text) => Ok(text.into_vec()),
-        Err(_) => Err(Status::NoMemory),
-    }
+    let read = read_run(alloc, input)?;
+    text_of_run(alloc, &read.tree, read.events.as_slice())
 }
 
 /// The report of a run.
-fn text_of_run(alloc: Global, tree: &Tree, events: &[Event]) -> Result<List<u8>, NoMemory>
+fn text_of_run(alloc: Global, tree: &Tree, events: &[Event]) -> Result<Vec<u8>, Status>
     requires { Run tree.now (history_of events.now) }
-    ensures { IfOk result (Reports tree.now events.now) }
+    ensures ok { IfOk result (λ text. Reports tree.now events.now text.items) }
+    ensures err { IfErr result (λ status. status ≡ Status.NoMemory) }
 {
     runs_are_fresh();
     reads_return_what_was_left();
@@ -40,5 +36,8 @@ fn text_of_run(alloc: Global, tree: &Tree, events: &[Event]) -> Result<List<u8>,
     // The board of a tree is valid, and its bus numbers are bytes.
     let board = tree.board();
     board_fits(board);
-    whole_report(alloc, tree, events)
+    match whole_report(alloc, tree, events) {
+        Ok(text) => Ok(text.into_vec()),
+        Err(_) => Err(Status::NoMemory),
+    }
 }
