@@ -54,11 +54,28 @@ pub fn told_of(alloc: Global, tree: &Tree, events: &[Event]) -> Result<Told, NoM
     requires few { length events.now < 2 ^ 31 }
     ensures { IfOk result (TellsTold tree.now events.now) }
 {
-    let found = findings_of(alloc, tree, events)?;
     let mut ends = Ends::new(alloc);
     let mut landed = Landed::new(alloc);
-    note_all(alloc, tree.board(), &mut ends, &mut landed, events)?;
-    told_by(alloc, &ends, &landed, events.len() + 1, found)
+    told_behind(alloc, tree, &mut ends, &mut landed, events)
+}
+
+/// The same, where nothing was noted down before.
+fn told_behind(
+    alloc: Global,
+    tree: &Tree,
+    ends: &mut Ends,
+    landed: &mut Landed,
+    events: &[Event],
+) -> Result<Told, NoMemory>
+    requires run { Run tree.now (history_of events.now) }
+    requires few { length events.now < 2 ^ 31 }
+    requires ends { TellsEnds [] ends.old }
+    requires landed { TellsTouches tree.now [] landed.old }
+    ensures { IfOk result (TellsTold tree.now events.now) }
+{
+    note_all(alloc, tree.board(), ends, landed, events)?;
+    let found = findings_of(alloc, tree, events)?;
+    told_by(alloc, ends, landed, events.len() + 1, found)
 }
 
 /// All events happen, one after another.

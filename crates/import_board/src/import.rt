@@ -1,8 +1,9 @@
 ghost use Rattle.std.specs.Prelude.{◌≡◌, ◌<◌, ◌^◌, IfOk, length};
-ghost use Rattle.import_board.specs.Import.{board_of, imported, TellsBoard};
+ghost use Rattle.import_bridges.specs.Bridges.{bridge_fates};
+ghost use Rattle.import_board.specs.Import.{board_of, text_of, imported, TellsBoard};
 
 use crate::text::import_text;
-use import_bridges::{Root, bridge_fates, machine_of, taken_among};
+use import_bridges::{Machine, Root, bridge_fates, machine_of, taken_among};
 use import_targets::devices_of;
 use import_text::{Function, ReadFault, read_functions};
 use pci_command::{List, NoMemory};
@@ -26,8 +27,15 @@ fn board_of(
     ensures { IfOk result (λ text. text ≡ board_of root functions) }
 {
     let machine = machine_of(alloc, root, functions)?;
-    let fates = bridge_fates(alloc, &machine)?;
+    text_of(alloc, &machine)
+}
+
+/// The board text of a machine.
+fn text_of(alloc: Global, machine: &Machine) -> Result<List<u8>, NoMemory>
+    ensures { IfOk result (λ text. text ≡ text_of machine.now (bridge_fates machine.now)) }
+{
+    let fates = bridge_fates(alloc, machine)?;
     let taken = taken_among(alloc, fates.as_slice())?;
-    let devices = devices_of(alloc, &machine, taken.as_slice())?;
-    import_text(alloc, &machine, fates.as_slice(), devices.as_slice())
+    let devices = devices_of(alloc, machine, taken.as_slice())?;
+    import_text(alloc, machine, fates.as_slice(), devices.as_slice())
 }

@@ -1,6 +1,7 @@
-ghost use Rattle.std.specs.Prelude.{◌<◌, ◌^◌, List as Items, length, IfOk, IfErr};
+ghost use Rattle.std.specs.Prelude.{◌<◌, ◌^◌, List as Items, [], length, IfOk, IfErr, OnOk};
 ghost use Rattle.history_model.specs.declared.event.Event.{Event};
 ghost use Rattle.history_model.specs.Runs.{history_of};
+ghost use Rattle.judge_state.specs.Stands.{StandsFor};
 ghost use Rattle.judge_next.specs.Course.{IsCourse, HasCourse};
 ghost use Rattle.judge_finish.specs.Finishing.{GoesOnBy, Finishes, IsUnfinished};
 
@@ -10,7 +11,7 @@ use history_model::Event;
 use judge_next::Course;
 use judge_state::{Kept, take_all};
 use law_delivered::laws_of_runs;
-use pci_command::{List, NoMemory};
+use pci_command::List;
 use std::alloc::Global;
 
 /// The events of a run, and behind them those with which it goes on to the end of all programs,
@@ -21,13 +22,31 @@ pub fn finish(alloc: Global, tree: &Tree, events: List<Event>) -> Result<List<Ev
     ensures ok { IfOk result (Finishes tree.now events) }
     ensures err { IfErr result (IsUnfinished tree.now events) }
 {
+    let mut course = course_of(alloc, tree, events.as_slice())?;
+    to_the_end(&mut course, tree, events)
+}
+
+/// The course of the run of these events, if they are one.
+fn course_of(alloc: Global, tree: &Tree, events: &[Event]) -> Result<Course, Unfinished>
+    requires { length events.now < 2 ^ 32 }
+    ensures ok { IfOk result (IsCourse tree.now (history_of events.now)) }
+    ensures err { IfErr result (IsUnfinished tree.now events.now) }
+{
     let mut kept = Kept::new(alloc, tree)?;
-    match take_all(&mut kept, tree, events.as_slice()) {
+    take_run(&mut kept, tree, events)?;
+    Ok(Course::new(alloc, tree, kept)?)
+}
+
+/// The events happen to what is kept of a run without events, if they are a run.
+fn take_run(kept: &mut Kept, tree: &Tree, events: &[Event]) -> Result<(), Unfinished>
+    requires few { length events.now < 2 ^ 32 }
+    requires start { StandsFor tree.now [] kept.old }
+    ensures ok { OnOk result (StandsFor tree.now (history_of events.now) kept.new) }
+    ensures err { IfErr result (IsUnfinished tree.now events.now) }
+{
+    match take_all(kept, tree, events) {
         Some((event, why)) => Err(Unfinished::NotRun { event, why }),
-        None => {
-            let mut course = Course::new(alloc, tree, kept)?;
-            Ok(to_the_end(&mut course, tree, events)?)
-        }
+        None => Ok(()),
     }
 }
 
@@ -36,9 +55,10 @@ fn to_the_end(
     course: &mut Course,
     tree: &Tree,
     events: List<Event>,
-) -> Result<List<Event>, NoMemory>
+) -> Result<List<Event>, Unfinished>
     requires { IsCourse tree.now (history_of events) course.old }
-    ensures { IfOk result (Finishes tree.now events) }
+    ensures ok { IfOk result (Finishes tree.now events) }
+    ensures err { IfErr result (IsUnfinished tree.now events) }
 {
     let mut whole = events.into_vec();
     while let Some(event) = go_on(course, tree) {

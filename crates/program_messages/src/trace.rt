@@ -145,8 +145,8 @@ struct ActWords<'a> {
 
 fn unknown_piece(alloc: Global, board: &Board, pieces: &[&[u8]]) -> Result<Unknown, NoMemory> {
     match pieces {
-        [b"end", ..] => Ok(Unknown::plain(1)),
-        [_, b"arrive", lane, ..] => unknown_in_arrival(alloc, board, lane),
+        [word, ..] if is_word(word, b"end") => Ok(Unknown::plain(1)),
+        [_, kind, lane, ..] if is_word(kind, b"arrive") => unknown_in_arrival(alloc, board, lane),
         [bus, kind, by, op, rest @ ..] => {
             let words = ActWords { bus, kind, by, op };
             unknown_in_act(alloc, board, words, rest.first().copied())

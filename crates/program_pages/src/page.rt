@@ -2,7 +2,9 @@ ghost use Rattle.std.specs.Prelude.{◌≡◌, IsTrue, IfSome, find};
 ghost use Rattle.std.specs.Option.{option_map};
 ghost use Rattle.program_pages.specs.Pages.{has_code};
 
-use crate::{DEVICE_PAGES, Fault, LOG_PAGES, MACHINE_PAGES, PAGES};
+use crate::{
+    DEVICE_PAGES, Fault, LINE_PAGES, LOG_PAGES, MACHINE_PAGES, TRACE_PAGES, TREE_PAGES,
+};
 use history_model::Why;
 use std::fmt;
 
@@ -33,32 +35,50 @@ pub struct Page {
 pub fn explain(code: &str) -> Option<&'static Page>
     ensures { IfSome result (λ page. IsTrue (has_code code.now page.now)) }
 {
-    match find_page(board_pages(), code) {
-        Some(page) => Some(page),
-        None => match find_page(device_pages(), code) {
-            Some(page) => Some(page),
-            None => match find_page(machine_pages(), code) {
-                Some(page) => Some(page),
-                None => find_page(log_pages(), code),
-            },
-        },
+    for pages in tables() {
+        if let Some(page) = find_page(pages, code) {
+            return Some(page);
+        }
     }
+    None
 }
 
-/// The pages of boards and traces, as a slice: what names a table itself takes long to prove.
-pub(crate) fn board_pages() -> &'static [Page] {
-    &PAGES
+/// All pages: of lines and trees of boards, of devices, of traces, of what `lspci` wrote, and of
+/// logs.
+pub(crate) fn tables() -> [&'static [Page]; 6] {
+    [
+        line_pages(),
+        tree_pages(),
+        device_pages(),
+        trace_pages(),
+        machine_pages(),
+        log_pages(),
+    ]
 }
 
-pub(crate) fn device_pages() -> &'static [Page] {
+/// The pages of lines, as a slice: what names a table itself takes long to prove, by the square of
+/// its length.
+fn line_pages() -> &'static [Page] {
+    &LINE_PAGES
+}
+
+fn tree_pages() -> &'static [Page] {
+    &TREE_PAGES
+}
+
+fn device_pages() -> &'static [Page] {
     &DEVICE_PAGES
 }
 
-pub(crate) fn machine_pages() -> &'static [Page] {
+fn trace_pages() -> &'static [Page] {
+    &TRACE_PAGES
+}
+
+fn machine_pages() -> &'static [Page] {
     &MACHINE_PAGES
 }
 
-pub(crate) fn log_pages() -> &'static [Page] {
+fn log_pages() -> &'static [Page] {
     &LOG_PAGES
 }
 

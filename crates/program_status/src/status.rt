@@ -23,7 +23,7 @@ pub enum BoardFault {
 }
 
 /// How a call of the program ends.
-#[derive(Clone, Copy, Debug, PartialEq, Eq)]
+#[derive(Clone, Copy, PartialEq, Eq)]
 pub enum Status {
     /// The text is whole in the sink.
     Done,
@@ -232,6 +232,13 @@ impl fmt::Display for Status {
                 write!(f, "pcitree: log line {line} is not allowed: {why}")
             }
         }
+    }
+}
+
+/// As it is told where a test fails: the number and the line.
+impl fmt::Debug for Status {
+    fn fmt<W: fmt::Write>(&self, f: &mut fmt::Formatter<W>) -> fmt::Result {
+        write!(f, "{} {self}", self.number())
     }
 }
 

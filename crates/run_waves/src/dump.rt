@@ -46,17 +46,33 @@ fn print_dump(
     ensures { OnOk result (string_bytes text.new
         ≡ string_bytes text.old ++ text_of (dump_lines tree.now events.now)) }
 {
+    let mut watch = Watch::new(alloc, tree)?;
+    print_watched(alloc, text, tree, events, &mut watch)
+}
+
+/// The same by what is watched of a run without events.
+fn print_watched(
+    alloc: Global,
+    text: &mut String,
+    tree: &Tree,
+    events: &[Event],
+    watch: &mut Watch,
+) -> Result<(), NoMemory>
+    requires run { Run tree.now (history_of events.now) }
+    requires at { IsAt tree.now beginning watch.old.kept watch.old.waits.items watch.old.scene }
+    ensures { OnOk result (string_bytes text.new
+        ≡ string_bytes text.old ++ text_of (dump_lines tree.now events.now)) }
+{
     let board = tree.board();
     let signals = print_head(alloc, text, board)?;
-    let mut watch = Watch::new(alloc, tree)?;
-    let mut shown = readings_of(alloc, board, &watch, &signals)?;
+    let mut shown = readings_of(alloc, board, watch, &signals)?;
     print_first(text, &signals, &shown)?;
     let spans = spans_of(alloc, board, &signals)?;
     let blocks = Blocks {
         signals: &signals,
         spans: &spans,
     };
-    print_moments(text, tree, events, &blocks, &mut shown, &mut watch)?;
+    print_moments(text, tree, events, &blocks, &mut shown, watch)?;
     Ok(())
 }
 

@@ -25,6 +25,7 @@ use machine_steps::{Presented, own_slot, reads, standing_request, word_read};
 use pci_command::{NoMemory, OpId};
 use std::alloc::Global;
 use std::marker::Model;
+use std::mem;
 
 /// What these events of a valid board are on bridges that keep no local master, the first event
 /// first. There are fewer than 2^32. Each is looked at once.
@@ -33,15 +34,7 @@ pub fn follow(alloc: Global, tree: &Tree, events: &[Event]) -> Result<Followed, 
     ensures { IfOk result (Follows tree.now events.now) }
 {
     let mut course = Course::new(alloc, tree)?;
-    for (index, event) in events.iter().enumerate() {
-        if let Some(why) = course.step(tree, event)? {
-            return Ok(Followed::NotRun {
-                event: index as u32 + 1,
-                why,
-            });
-        }
-    }
-    Ok(Followed::Run { gots: course.gots })
+    course.follow(alloc, tree, events)
 }
 
 /// What is kept of a run, and of what its reads got.
@@ -73,6 +66,29 @@ impl Course {
             origins: Origins::new(alloc),
             gots: Vec::new(alloc),
         })
+    }
+
+    /// What these events are, which happen one after another. What their reads got is given away.
+    fn follow(
+        &mut self,
+        alloc: Global,
+        tree: &Tree,
+        events: &[Event],
+    ) -> Result<Followed, NoMemory>
+        requires course { IsCourse tree.now [] self.old }
+        requires few { length events.now < 2 ^ 32 }
+        ensures { IfOk result (Follows tree.now events.now) }
+    {
+        for (index, event) in events.iter().enumerate() {
+            if let Some(why) = self.step(tree, event)? {
+                return Ok(Followed::NotRun {
+                    event: index as u32 + 1,
+                    why,
+                });
+            }
+        }
+        let gots = mem::replace(&mut self.gots, Vec::new(alloc));
+        Ok(Followed::Run { gots })
     }
 
     /// One more event, where it is allowed; if it is not, the cause.

@@ -20,8 +20,10 @@ pub fn answer_devices(alloc: Global, input: &[u8]) -> Result<Vec<u8>, Status>
     ensures err { IfErr result (RefusesDevices input.now) }
 {
     let tree = read_devices(alloc, input)?;
-    let trace = trace_of(alloc, input, &tree).map_err(|_| Status::NoMemory)?;
-    Ok(trace.into_vec())
+    match trace_of(alloc, input, &tree) {
+        Ok(trace) => Ok(trace.into_vec()),
+        Err(_) => Err(Status::NoMemory),
+    }
 }
 
 /// The trace text of the run of a board, which delivers.

@@ -1,7 +1,11 @@
-ghost use Rattle.std.specs.Prelude.{◌<◌, ◌^◌, length, IfOk, IfErr};
+ghost use Rattle.std.specs.Prelude.{◌<◌, ◌^◌, ℕ, List, length, IfOk, IfErr};
+ghost use Rattle.program_input.specs.Traces.{ReadsTrace};
 ghost use Rattle.command_runs.specs.finish.Answers.{AnswersFinish, RefusesFinish};
 
+use board_tree::Tree;
+use history_model::Event;
 use judge_finish::{Unfinished, finish};
+use pci_command::List;
 use program_input::{TreeTrace, read_tree_trace};
 use program_status::Status;
 use std::alloc::Global;
@@ -14,8 +18,20 @@ pub fn answer_finish(alloc: Global, input: &[u8]) -> Result<Vec<u8>, Status>
     ensures err { IfErr result (RefusesFinish input.now) }
 {
     let TreeTrace { tree, events } = read_tree_trace(alloc, input)?;
-    match finish(alloc, &tree, events) {
-        Ok(whole) => match run_text(alloc, tree.board(), whole.as_slice()) {
+    finished_text(alloc, &tree, events)
+}
+
+/// The same of the events that were read.
+fn finished_text(alloc: Global, tree: &Tree, events: List<Event>) -> Result<Vec<u8>, Status>
+    requires { length events < 2 ^ 32 }
+    ensures ok { (input : List ℕ) → ReadsTrace input tree.now events →
+        IfOk result (λ text. AnswersFinish input text.items) }
+    ensures err { (input : List ℕ) → ReadsTrace input tree.now events →
+        IfErr result (RefusesFinish input) }
+{
+    let board = tree.board();
+    match finish(alloc, tree, events) {
+        Ok(whole) => match run_text(alloc, board, whole.as_slice()) {
             Ok(text) => Ok(text.into_vec()),
             Err(_) => Err(Status::NoMemory),
         },

@@ -1,5 +1,6 @@
-ghost use Rattle.std.specs.Prelude.{◌≡◌, ◌<◌, ◌^◌, length, IfOk, IfErr};
+ghost use Rattle.std.specs.Prelude.{◌≡◌, ◌<◌, ◌^◌, ℕ, List, length, IfOk, IfErr};
 ghost use Rattle.history_model.specs.Runs.{Run, history_of};
+ghost use Rattle.program_input.specs.Traces.{ReadsTree};
 ghost use Rattle.draw_told.specs.Closes.{allowed_in};
 ghost use Rattle.draw_page.specs.Pages.{page_of, ShowsLanes};
 ghost use Rattle.command_traces.specs.draw.Rows.{first_of_all, first_row, last_row};
@@ -30,9 +31,8 @@ pub fn answer_draw(alloc: Global, input: &[u8], rows: Option<Rows>) -> Result<An
         AnswersDraw input.now (rows_asked rows) page.text.items page.ending) }
     ensures err { IfErr result (RefusesDraw input.now (rows_asked rows)) }
 {
-    let TreeTrace { tree, events } = read_tree_trace(alloc, input)?;
-    let shown = shown_of(alloc, &tree, events.as_slice())?;
-    answer_rows(alloc, &tree, shown.events, shown.close, rows)
+    let read = read_tree_trace(alloc, input)?;
+    draw_rows(alloc, &read, rows)
 }
 
 /// The same of the events of one operation.
@@ -42,10 +42,33 @@ pub fn answer_draw_operation(alloc: Global, input: &[u8], word: &[u8]) -> Result
         AnswersDraw input.now (operation_asked word.now) page.text.items page.ending) }
     ensures err { IfErr result (RefusesDraw input.now (operation_asked word.now)) }
 {
-    let TreeTrace { tree, events } = read_tree_trace(alloc, input)?;
-    let shown = shown_of(alloc, &tree, events.as_slice())?;
-    let rows = rows_of_operation(alloc, &tree, shown.events, word)?;
-    answer_rows(alloc, &tree, shown.events, shown.close, Some(rows))
+    let read = read_tree_trace(alloc, input)?;
+    draw_operation(alloc, &read, word)
+}
+
+/// The page of what was read, of all or these rows.
+fn draw_rows(alloc: Global, read: &TreeTrace, rows: Option<Rows>) -> Result<Answered, Status>
+    requires { length read.now.events < 2 ^ 32 }
+    ensures ok { (input : List ℕ) → ReadsTree input read.now → IfOk result (λ page.
+        AnswersDraw input (rows_asked rows) page.text.items page.ending) }
+    ensures err { (input : List ℕ) → ReadsTree input read.now →
+        IfErr result (RefusesDraw input (rows_asked rows)) }
+{
+    let shown = shown_of(alloc, &read.tree, read.events.as_slice())?;
+    answer_rows(alloc, &read.tree, shown.events, shown.close, rows)
+}
+
+/// The same of the events of one operation.
+fn draw_operation(alloc: Global, read: &TreeTrace, word: &[u8]) -> Result<Answered, Status>
+    requires { length read.now.events < 2 ^ 32 }
+    ensures ok { (input : List ℕ) → ReadsTree input read.now → IfOk result (λ page.
+        AnswersDraw input (operation_asked word.now) page.text.items page.ending) }
+    ensures err { (input : List ℕ) → ReadsTree input read.now →
+        IfErr result (RefusesDraw input (operation_asked word.now)) }
+{
+    let shown = shown_of(alloc, &read.tree, read.events.as_slice())?;
+    let rows = rows_of_operation(alloc, &read.tree, shown.events, word)?;
+    answer_rows(alloc, &read.tree, shown.events, shown.close, Some(rows))
 }
 
 fn answer_rows(

@@ -1,7 +1,8 @@
-ghost use Rattle.std.specs.Prelude.{◌≡◌, ◌<◌, ◌≤◌, ◌^◌, length, IfOk, IfErr};
+ghost use Rattle.std.specs.Prelude.{◌≡◌, ◌<◌, ◌≤◌, ◌^◌, ℕ, List, length, IfOk, IfErr};
 ghost use Rattle.board_model.specs.Ways.{bound_of};
 ghost use Rattle.history_model.specs.Runs.{Run, history_of};
 ghost use Rattle.trace_roundtrip.specs.Printed.{IsTraceOf};
+ghost use Rattle.program_input.specs.Traces.{ReadsTree};
 ghost use Rattle.command_traces.specs.fill.Answers.{AnswersFill, RefusesFill};
 
 use board_tree::Tree;
@@ -19,9 +20,19 @@ pub fn answer_fill(alloc: Global, input: &[u8]) -> Result<Vec<u8>, Status>
     ensures ok { IfOk result (λ text. AnswersFill input.now text.items) }
     ensures err { IfErr result (RefusesFill input.now) }
 {
-    let TreeTrace { tree, events } = read_tree_trace(alloc, input)?;
-    match fill(alloc, &tree, events.as_slice()) {
-        Ok(whole) => text_of_run(alloc, &tree, whole.as_slice()),
+    let read = read_tree_trace(alloc, input)?;
+    filled_text(alloc, &read)
+}
+
+/// The same of what was read.
+fn filled_text(alloc: Global, read: &TreeTrace) -> Result<Vec<u8>, Status>
+    requires { length read.now.events < 2 ^ 32 }
+    ensures ok { (input : List ℕ) → ReadsTree input read.now →
+        IfOk result (λ text. AnswersFill input text.items) }
+    ensures err { (input : List ℕ) → ReadsTree input read.now → IfErr result (RefusesFill input) }
+{
+    match fill(alloc, &read.tree, read.events.as_slice()) {
+        Ok(whole) => text_of_run(alloc, &read.tree, whole.as_slice()),
         Err(Unfilled::NotRun { event, why }) => Err(Status::NotRun { event, why }),
         Err(Unfilled::NoMemory) => Err(Status::NoMemory),
     }

@@ -2,7 +2,7 @@ use Rattle.std.proofs.Common.{refl, subst}
 use Rattle.board_model.specs.declared.board.Board.{Board}
 use Rattle.history_model.specs.Runs.{history_of}
 use Rattle.draw_told.specs.Kept.{TellsTouches}
-use Rattle.draw_told.proofs.told.told_of.Goals as goal
+use Rattle.draw_told.proofs.told.told_behind.Goals as goal
 
 pub returns : goal.returns
 returns c =

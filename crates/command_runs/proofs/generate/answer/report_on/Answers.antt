@@ -9,20 +9,20 @@ use Rattle.judge_state.proofs.RefusedLemmas.{no_refused}
 use Rattle.judge_finish.specs.Finishing.{IsUnfinished}
 use Rattle.run_report.specs.Report.{report_of}
 use Rattle.command_runs.proofs.generate.CountLemmas.{GeneratesTo-run}
-use Rattle.command_runs.proofs.generate.answer.report_of.Goals as goal
+use Rattle.command_runs.proofs.generate.answer.report_on.Goals as goal
 
 pub returns-in-Ok : goal.returns-in-Ok
 returns-in-Ok c =
     IfOk-weaker _ _ _
     (λ text is.
-    GeneratesTo-run c.args.rounds.now c.in_ok-tree.tree c.in-Ok.events text c.in_ok-tree.ensures (c.generated_boards_are_valid.ensures.bound c.args.rounds.now) c.board-board.ensures.valid c.in-Ok.ensures.ok.runs
-    (is ∙ ap (λ es. report_of c.in_ok-tree.tree (history_of es)) c.as_slice.ensures))
+    GeneratesTo-run c.args.rounds.now c.args.tree.now c.in-Ok.events text c.requires (c.generated_boards_are_valid.ensures.bound c.args.rounds.now) c.board-board.ensures.valid c.in-Ok.ensures.ok.runs
+    (is ∙ ap (λ es. report_of c.args.tree.now (history_of es)) c.as_slice.ensures))
     c.report.ensures
 
 -- of no events none is refused
 pub unreachable-requires : goal.unreachable-requires
 unreachable-requires c =
-    let board : Board = c.in_ok-tree.tree in
+    let board : Board = c.args.tree.now in
     let number : ℕ = c.in-Err-NotRun.field-0-0 in
     let why : Why = c.in-Err-NotRun.field-0-1 in
     let none : c.from_vec.result ≡ [] = c.from_vec.ensures ∙ c.new.ensures.items in
