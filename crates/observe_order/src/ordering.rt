@@ -62,7 +62,7 @@ pub fn order(
     })
 }
 
-/// The events are those of the run, where there was none before.
+/// The run begins, and goes on by all acts that are allowed: these are its events.
 fn order_into(
     alloc: Global,
     tree: &Tree,
@@ -76,6 +76,7 @@ fn order_into(
     order_all(alloc, &mut course, events, tree, heads)
 }
 
+/// The run goes on by all acts that are allowed.
 fn order_all(
     alloc: Global,
     course: &mut Course,
