@@ -8,7 +8,7 @@ use history_model::{By, Event, Step};
 use pci_command::{OpId, Outcome};
 
 /// An operation that ended at its master, and its value, if it has one.
-#[derive(Clone, Copy, Debug)]
+#[derive(Clone, Copy)]
 pub(crate) struct Ended {
     pub(crate) op: OpId,
     pub(crate) value: Option<u32>,

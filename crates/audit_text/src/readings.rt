@@ -11,7 +11,7 @@ use machine_steps::dword_address;
 use pci_command::{OpId, Space};
 
 /// A Read event at a target: its operation, the dword and its value.
-#[derive(Clone, Copy, Debug)]
+#[derive(Clone, Copy)]
 pub(crate) struct Read {
     pub(crate) op: OpId,
     pub(crate) target: u16,
@@ -22,7 +22,7 @@ pub(crate) struct Read {
 
 /// What an operation read at a target: the dword and its value, and how many data phases had landed
 /// there and how many events there were before.
-#[derive(Clone, Copy, Debug)]
+#[derive(Clone, Copy)]
 pub(crate) struct Reading {
     pub(crate) target: u16,
     pub(crate) space: Space,

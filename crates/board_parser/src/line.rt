@@ -1,7 +1,7 @@
 ghost use Rattle.std.specs.Prelude.{◌≡◌, nat_lt, length};
 ghost use Rattle.board_text.specs.Tokens.{words_of};
 ghost use Rattle.board_statements.specs.Statements.{statement_of, first_line_of};
-ghost use Rattle.board_parser.specs.draft.Steps.{Answers};
+ghost use Rattle.board_parser.specs.draft.Steps.{Answers, Changes};
 ghost use Rattle.board_parser.specs.OneLine.{read_line, read_words, read_statement};
 
 use crate::draft::{AddFault, Sheet};
@@ -10,21 +10,22 @@ use board_text::check_line;
 use std::alloc::Global;
 use text_faults::LineFault;
 
-/// The sheet behind one more line. There is none before the first line that has words.
+/// The sheet is what it is behind one more line. There is none before the first line that has
+/// words.
 pub(crate) fn read_line(
     alloc: Global,
-    sheet: Option<Sheet>,
+    sheet: &mut Option<Sheet>,
     line: &[u8],
-) -> Result<Option<Sheet>, AddFault>
-    ensures { Answers result (read_line sheet line.now) }
+) -> Result<(), AddFault>
+    ensures { Changes result sheet.new (read_line sheet.old line.now) }
 {
     if let Err(fault) = check_line(line) {
         return Err(AddFault::Fault(fault));
     }
-    if !has_words(line) {
-        return Ok(sheet);
+    if has_words(line) {
+        *sheet = read_words(alloc, sheet.take(), line)?;
     }
-    read_words(alloc, sheet, line)
+    Ok(())
 }
 
 fn read_words(alloc: Global, sheet: Option<Sheet>, line: &[u8]) -> Result<Option<Sheet>, AddFault>

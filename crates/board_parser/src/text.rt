@@ -33,8 +33,8 @@ pub fn parse_sheet(alloc: Global, bytes: &[u8]) -> Result<Sheet, ParseFault>
     let mut number = 1;
     let mut at = 0;
     while let Some((line, next)) = next_line(bytes, at) {
-        match read_line(alloc, sheet, line) {
-            Ok(read) => sheet = read,
+        match read_line(alloc, &mut sheet, line) {
+            Ok(()) => {}
             Err(AddFault::Fault(fault)) => {
                 return Err(ParseFault::Fault(AtLine {
                     line: number,

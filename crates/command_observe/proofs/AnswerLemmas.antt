@@ -1,6 +1,6 @@
 -- What was read of a log, and found out of what was written, is what is told of both.
 use Rattle.std.proofs.Common.{◌≡◌, ℕ, List, Option, Some, None, Result, Ok, Err, refl, sym, ap, subst, ◌∙◌}
-use Rattle.std.specs.Prelude.{IsTrue}
+use Rattle.std.specs.Prelude.{IsTrue, IfOk, IfErr}
 use Rattle.std.specs.Option.{option_map}
 use Rattle.board_model.specs.declared.board.Board.{Board}
 use Rattle.board_model.specs.WellFormed.{is_well_formed}
@@ -15,7 +15,8 @@ use Rattle.observe_log.specs.declared.fault.LogFault.{LogFault}
 use Rattle.observe_log.specs.declared.fault.LogFault.TheVariants as faults
 use Rattle.observe_log.specs.Logs.{log_read, Tells, TellsBoardOf}
 use Rattle.program_status.specs.declared.status.Status.{Status}
-use Rattle.program_status.specs.declared.status.Status.TheVariants.{BadBoard, BadLog, NotTold, TooMuch}
+use Rattle.program_status.specs.declared.status.Status.TheVariants.{NoMemory, BadBoard, BadLog, NotTold, TooMuch}
+use Rattle.program_status.specs.declared.answered.Answered.{Answered}
 use Rattle.program_status.specs.declared.status.BoardFault.{BoardFault}
 use Rattle.program_status.specs.declared.status.BoardFault.TheVariants.{Line}
 use Rattle.program_status.specs.declared.log.LogRefusal.{LogRefusal}
@@ -33,7 +34,7 @@ use Rattle.observe_order.specs.declared.judging.ActsVerdict.{ActsVerdict}
 use Rattle.observe_order.specs.declared.judging.ActsVerdict.TheVariants.{IsRun, Refused}
 use Rattle.command_observe.specs.Logs.{log_refusal, log_reading_refusal, RefusesLog, IsLogText, ReadsLog, TellsFault}
 use Rattle.command_observe.specs.Answers.{RefusesObserve, AnswersObserve, AnswersActs, TellsRun, TellsActs}
-use Rattle.command_observe.specs.Judging.{untold_status, ending_of, IsRunOf, HasRun, IsJudged, AreActsOf, HoldsActs}
+use Rattle.command_observe.specs.Judging.{untold_status, IsUntold, ending_of, IsRunOf, HasRun, IsJudged, HoldsActs}
 
 -- a fault of the text is told as it is read
 pub fault_refuses : (input : List ℕ) (fault : OrNoMemory LogFault) (status : Status) → Tells {A = Log} (Err fault) (log_read input) → TellsFault fault status → RefusesLog input status
@@ -102,20 +103,26 @@ read_refuses input (NotTold line refusal) refuses = absurd (no_told (log_read in
 read_refuses input (TooMuch line excess) refuses = absurd (no_much (log_read input) line excess refuses)
 read_refuses input status refuses = refuses
 
-of_log : (input : List ℕ) (untold : Untold) → IsLogText input → RefusesObserve input (untold_status untold)
-of_log input (untolds.NotTold line refusal) is = is
-of_log input (untolds.TooMuch line excess) is = is
-of_log input untolds.NoMemory is = tt
+pub is_untold : (untold : Untold) (status : Status) → status ≡ untold_status untold → IsUntold status
+is_untold (untolds.NotTold line refusal) status is = subst IsUntold (sym is) tt
+is_untold (untolds.TooMuch line excess) status is = subst IsUntold (sym is) tt
+is_untold untolds.NoMemory status is = subst IsUntold (sym is) tt
 
--- what is not written of a log is refused so
-pub untold_refuses : (input : List ℕ) (read : TreeLog) (untold : Untold) (status : Status) → ReadsLog input read → status ≡ untold_status untold → RefusesObserve input status
-untold_refuses input read untold status reads is =
-    let log : IsLogText input = record { log = read.log; reads = reads.reads; tree = reads.faultless } in
-    subst (λ s. RefusesObserve input s) (sym is) (of_log input untold log)
+of_log : (input : List ℕ) (status : Status) → IsLogText input → IsUntold status → RefusesObserve input status
+of_log input (NotTold line refusal) is untold = is
+of_log input (TooMuch line excess) is untold = is
+of_log input NoMemory is untold = tt
+of_log input status is untold = absurd untold
+
+-- a log of which nothing is written is refused so
+pub untold_refuses : {A : Type 0} (input : List ℕ) (read : TreeLog) (found : Result A Status) → ReadsLog input read → IfErr found IsUntold → IfErr found (RefusesObserve input)
+untold_refuses input read (Ok value) reads untold = tt
+untold_refuses input read (Err status) reads untold = of_log input status (record { log = read.log; reads = reads.reads; tree = reads.faultless }) untold
 
 -- a run that is told of a log is of the input
-pub has_run : (input : List ℕ) (read : TreeLog) (run : RunTold) → ReadsLog input read → IsRunOf read.log run → HasRun input run
-has_run input read run reads of_log = record { log = read.log; reads = reads.reads; of_log = of_log }
+pub has_run : (input : List ℕ) (read : TreeLog) (found : Result RunTold Status) → ReadsLog input read → IfOk found (IsRunOf read.log) → IfOk found (HasRun input)
+has_run input read (Ok run) reads of_log = record { log = read.log; reads = reads.reads; of_log = of_log }
+has_run input read (Err status) reads of_log = tt
 
 -- what is read as it tells it
 tells_run : (log : Log) (run : RunTold) (text : List ℕ) → IsRunOf log run → IsValid run.tree → trace_read text ≡ Ok (run.tree, run.events) → TellsRun log text
@@ -131,11 +138,20 @@ tells_run log run text is valid read =
     }
 
 -- what is written of it answers it
-pub observes : (input : List ℕ) (run : RunTold) (text : List ℕ) → HasRun input run → IsValid run.tree → trace_read text ≡ Ok (run.tree, run.events) → AnswersObserve input text
-observes input run text has valid read = record { log = has.log; reads = has.reads; writes = tells_run has.log run text has.of_log valid read }
+pub observes : {A : Type 0} (input : List ℕ) (run : RunTold) (items : A → List ℕ) (written : Result A Status) → HasRun input run → IsValid run.tree
+    → IfOk written (λ text. trace_read (items text) ≡ Ok (run.tree, run.events)) → IfOk written (λ text. AnswersObserve input (items text))
+observes input run items (Ok text) has valid read = record { log = has.log; reads = has.reads; writes = tells_run has.log run (items text) has.of_log valid read }
+observes input run items (Err status) has valid read = tt
 
-pub acts_told : (input : List ℕ) (read : TreeLog) (text : List ℕ) (ending : Status) → ReadsLog input read → TellsActs read.log text ending → AnswersActs input text ending
-acts_told input read text ending reads tells = record { log = read.log; reads = reads.reads; writes = tells }
+-- and for want of memory nothing is
+pub observes_none : {A : Type 0} (input : List ℕ) (written : Result A Status) → IfErr written (λ status. status ≡ NoMemory) → IfErr written (RefusesObserve input)
+observes_none input (Ok text) is = tt
+observes_none input (Err status) is = subst (λ s. RefusesObserve input s) (sym is) tt
+
+pub acts_told : (input : List ℕ) (read : TreeLog) (found : Result Answered Status) → ReadsLog input read
+    → IfOk found (λ answer. TellsActs read.log answer.text.items answer.ending) → IfOk found (λ answer. AnswersActs input answer.text.items answer.ending)
+acts_told input read (Ok answer) reads tells = record { log = read.log; reads = reads.reads; writes = tells }
+acts_told input read (Err status) reads tells = tt
 
 -- what was read again is what was written
 
@@ -145,17 +161,14 @@ verdict_tells log text read IsRun reads is line =
 verdict_tells log text read (Refused event why) reads is line =
     record { board = read.tree; events = read.events; read_back = reads.reads.read; valid = reads.valid; told = is.told; ends = is.judged }
 
-pub holds_verdict : (log : Log) (text : List ℕ) (read : TreeTrace) (found : Option ActsVerdict) → ReadsTree text read → AreActsOf log read found → HoldsActs log text found
-holds_verdict log text read None reads are = tt
-holds_verdict log text read (Some verdict) reads are = λ line. verdict_tells log text read verdict reads are line
-
-pub holds_none : (log : Log) (text : List ℕ) → HoldsActs log text None
-holds_none log text = tt
+pub holds_verdict : {E : Type 0} (log : Log) (text : List ℕ) (read : TreeTrace) (found : Result ActsVerdict E) → ReadsTree text read → IfOk found (IsJudged log read) → IfOk found (HoldsActs log text)
+holds_verdict log text read (Ok verdict) reads is = λ line. verdict_tells log text read verdict reads is line
+holds_verdict log text read (Err untold) reads is = tt
 
 -- the ending tells the verdict, of whichever line
-pub ends_by : (log : Log) (text : List ℕ) (verdict : ActsVerdict) (ending : Status) → HoldsActs log text (Some verdict) → ((line : ℕ) × (ending ≡ ending_of line verdict)) → TellsActs log text ending
+pub ends_by : (log : Log) (text : List ℕ) (verdict : ActsVerdict) (ending : Status) → HoldsActs log text verdict → ((line : ℕ) × (ending ≡ ending_of line verdict)) → TellsActs log text ending
 ends_by log text verdict ending holds is = subst (λ s. TellsActs log text s) (sym is.1) (holds is.0)
 
 -- acts that are told of lines
-pub told_by : (log : Log) (board : Board) (acts events : List Event) (lines : List ℕ) → acts ≡ acts_of events → AreToldBy log board acts lines → IsToldOf log board (acts_of events)
-told_by log board acts events lines same told = subst (λ (l : List Event). IsToldOf log board l) same (record { lines = lines; told = told })
+pub told_by : (log : Log) (board : Board) (events : List Event) (lines : List ℕ) → AreToldBy log board (acts_of events) lines → IsToldOf log board (acts_of events)
+told_by log board events lines told = record { lines = lines; told = told }

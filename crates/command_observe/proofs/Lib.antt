@@ -1,3 +1,2 @@
 pub mod ServedLemmas
-pub mod ActLemmas
 pub mod AnswerLemmas

@@ -1,7 +1,5 @@
 -- What is found out of a run that a log tells, and of a text that was written.
-use Rattle.std.specs.Prelude.{◌≡◌, ◌<◌, ◌^◌, ℕ, Bool, true, false, List, length, Option, Some, None, Ok, string_bytes}
-use Rattle.history_model.specs.declared.event.Event.{Event}
-use Rattle.history_model.specs.declared.event.Event.TheVariants.{Act, Arrive}
+use Rattle.std.specs.Prelude.{◌≡◌, ◌<◌, ◌^◌, ℕ, List, length, Ok, string_bytes}
 use Rattle.law_early.specs.Early.{acts_of}
 use Rattle.observe_log.specs.Logs.{log_read}
 use Rattle.observe_log.specs.Told.{Tells}
@@ -18,11 +16,6 @@ use Rattle.command_observe.specs.declared.drafting.Untold.TheVariants as untolds
 use Rattle.command_observe.specs.declared.telling.RunTold.{RunTold}
 use Rattle.command_observe.specs.Answers.{TellsActs}
 use Rattle.trace_roundtrip.specs.Comments.{AreComments}
-
--- the event is no arrival
-abbrev pub is_act : Event → Bool
-is_act (Act on by o step place) = true
-is_act (Arrive lane mark) = false
 
 -- a run, at whose end nothing is in flight, that a log tells of; and what is said of it are comments
 pub record IsRunOf (log : Log) (run : RunTold) : Type 0 where
@@ -42,23 +35,24 @@ pub record IsJudged (log : Log) (read : TreeTrace) (verdict : ActsVerdict) : Typ
   pub told : Tells log read.tree (acts_of read.events)
   pub judged : JudgesActs read.tree read.events verdict
 
--- so it is where there is a verdict
-abbrev pub AreActsOf : Log → TreeTrace → Option ActsVerdict → Type 0
-AreActsOf log read None = Unit {0}
-AreActsOf log read (Some verdict) = IsJudged log read verdict
-
 -- the ending that tells a verdict, of an act of this line
 abbrev pub ending_of : ℕ → ActsVerdict → Status
 ending_of line IsRun = statuses.Done
 ending_of line (Refused event why) = statuses.ToldTo line why
 
 -- a text tells the acts of a log, with the ending that tells the verdict, whatever the line is
-abbrev pub HoldsActs : Log → List ℕ → Option ActsVerdict → Type 0
-HoldsActs log text None = Unit {0}
-HoldsActs log text (Some verdict) = (line : ℕ) → TellsActs log text (ending_of line verdict)
+abbrev pub HoldsActs : Log → List ℕ → ActsVerdict → Type 0
+HoldsActs log text verdict = (line : ℕ) → TellsActs log text (ending_of line verdict)
 
 -- how it is told that no text was written
 abbrev pub untold_status : Untold → Status
 untold_status (untolds.NotTold line refusal) = statuses.NotTold line refusal
 untold_status (untolds.TooMuch line excess) = statuses.TooMuch line excess
 untold_status untolds.NoMemory = statuses.NoMemory
+
+-- a status by which that is told
+abbrev pub IsUntold : Status → Type 0
+IsUntold (statuses.NotTold line refusal) = Unit {0}
+IsUntold (statuses.TooMuch line excess) = Unit {0}
+IsUntold statuses.NoMemory = Unit {0}
+IsUntold status = ⊥

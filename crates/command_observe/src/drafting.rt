@@ -1,6 +1,6 @@
 //! What a log tells, as it was found. Of what was found nothing is claimed but that its events are
 //! a run of its board.
-ghost use Rattle.std.specs.Prelude.{IfOk, IsTrue};
+ghost use Rattle.std.specs.Prelude.{IfOk, IfSome, IsTrue};
 ghost use Rattle.board_model.specs.WellFormed.{is_well_formed};
 ghost use Rattle.observe_order.specs.Going.{EndsLanded};
 
@@ -42,6 +42,21 @@ impl<T: Drop> From<AllocFailed<T>> for Untold {
     }
 }
 
+impl From<Untold> for Status {
+    ghost use Rattle.std.specs.Prelude.{◌≡◌};
+    ghost use Rattle.command_observe.specs.Judging.{untold_status};
+
+    ghost from_gives = { λ untold given. given ≡ untold_status untold };
+
+    fn from(untold: Untold) -> Status {
+        match untold {
+            Untold::NotTold { line, refusal } => Status::NotTold { line, refusal },
+            Untold::TooMuch { line, excess } => Status::TooMuch { line, excess },
+            Untold::NoMemory => Status::NoMemory,
+        }
+    }
+}
+
 /// What a log tells, the tree of the board that was found, and the acts in an order.
 #[derive(Drop)]
 pub(crate) struct Told {
@@ -56,19 +71,24 @@ pub(crate) fn told_by(alloc: Global, read: &TreeLog) -> Result<Told, Untold>
     ensures { IfOk result (λ told. EndsLanded told.tree told.ordered.events) }
 {
     let told = told_with(alloc, read, Times::Meet)?;
-    if told.ordered.refused().is_none() {
-        return Ok(told);
+    match told_apart(alloc, read, &told.ordered)? {
+        Some(apart) => Ok(apart),
+        None => Ok(told),
+    }
+}
+
+/// What the log tells where times are apart, if its acts are no run in this order and then are one.
+fn told_apart(alloc: Global, read: &TreeLog, met: &Ordered) -> Result<Option<Told>, Untold>
+    ensures { IfOk result
+        (λ told. IfSome told (λ told. EndsLanded told.tree told.ordered.events)) }
+{
+    if met.refused().is_none() {
+        return Ok(None);
     }
     match told_with(alloc, read, Times::Apart) {
-        Ok(apart) => {
-            if apart.ordered.refused().is_none() {
-                Ok(apart)
-            } else {
-                Ok(told)
-            }
-        }
+        Ok(apart) if apart.ordered.refused().is_none() => Ok(Some(apart)),
         Err(Untold::NoMemory) => Err(Untold::NoMemory),
-        Err(_) => Ok(told),
+        Ok(_) | Err(_) => Ok(None),
     }
 }
 

@@ -3,7 +3,6 @@
 //! is printed of it is read as it; a text of acts is read again, judged, and held against the log.
 #![tactic(auto)]
 
-mod acting;
 mod answer;
 mod drafting;
 mod holding;

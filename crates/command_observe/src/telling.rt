@@ -1,13 +1,12 @@
 //! The run that a log tells of, with what is said of it.
-ghost use Rattle.std.specs.Prelude.{◌<◌, ◌^◌, length, string_bytes, IfOk, IsTrue};
+ghost use Rattle.std.specs.Prelude.{◌<◌, ◌^◌, length, string_bytes, IfOk, IfErr, IsTrue};
 ghost use Rattle.board_model.specs.WellFormed.{is_well_formed};
 ghost use Rattle.law_early.specs.Early.{acts_of};
 ghost use Rattle.observe_log.specs.Told.{Tells};
 ghost use Rattle.observe_order.specs.Going.{EndsLanded};
 ghost use Rattle.trace_roundtrip.specs.Comments.{AreComments};
-ghost use Rattle.command_observe.specs.Judging.{IsRunOf};
+ghost use Rattle.command_observe.specs.Judging.{IsRunOf, IsUntold};
 
-use crate::acting::acts_of;
 use crate::drafting::{Told, Untold, number_of, told_by, unheld};
 use crate::notes::comments;
 use crate::reading::TreeLog;
@@ -15,10 +14,9 @@ use board_tree::Tree;
 use history_model::Event;
 use observe_found::Unseen;
 use observe_log::is_told;
-use observe_order::Ordered;
 use observe_told::Log;
 use pci_command::{List, NoMemory};
-use program_status::LogRefusal;
+use program_status::{LogRefusal, Status};
 use std::alloc::Global;
 use trace_roundtrip::are_comments;
 
@@ -31,33 +29,30 @@ pub(crate) struct RunTold {
 }
 
 /// The run that the log tells of.
-pub(crate) fn run_told(alloc: Global, read: &TreeLog) -> Result<RunTold, Untold>
+#[tactic(auto, using(crate::proofs::AnswerLemmas::is_untold))]
+pub(crate) fn run_told(alloc: Global, read: &TreeLog) -> Result<RunTold, Status>
     requires { IsTrue (is_well_formed read.now.log.board) }
-    ensures { IfOk result (IsRunOf read.now.log) }
+    ensures ok { IfOk result (IsRunOf read.now.log) }
+    ensures err { IfErr result IsUntold }
 {
-    let Told {
+    let told = told_by(alloc, read)?;
+    let said = said_of_run(alloc, &read.log, &told)?;
+    let Told { tree, ordered, .. } = told;
+    Ok(RunTold {
         tree,
-        unseen,
-        ordered,
-    } = told_by(alloc, read)?;
-    let said = said_of_run(alloc, &read.log, &tree, &unseen, &ordered)?;
-    let Ordered { events, .. } = ordered;
-    Ok(RunTold { tree, events, said })
+        events: ordered.events,
+        said,
+    })
 }
 
 /// What is said of what was found, where it is a run that the log tells of.
-fn said_of_run(
-    alloc: Global,
-    log: &Log,
-    tree: &Tree,
-    unseen: &Unseen,
-    ordered: &Ordered,
-) -> Result<String, Untold>
+fn said_of_run(alloc: Global, log: &Log, told: &Told) -> Result<String, Untold>
     requires { IsTrue (is_well_formed log.now.board) }
-    ensures few { IfOk result (λ _. length ordered.now.events < 2 ^ 32) }
-    ensures told { IfOk result (λ _. Tells log.now tree.now (acts_of ordered.now.events)) }
+    ensures few { IfOk result (λ _. length told.now.ordered.events < 2 ^ 32) }
+    ensures told { IfOk result (λ _. Tells log.now told.now.tree (acts_of told.now.ordered.events)) }
     ensures comments { IfOk result (λ said. AreComments (string_bytes said)) }
 {
+    let ordered = &told.ordered;
     if let Some(refused) = ordered.refused() {
         return Err(Untold::NotTold {
             line: number_of(log, refused.line),
@@ -68,11 +63,10 @@ fn said_of_run(
     if events.len() > 0xffff_ffff {
         return Err(unheld(log));
     }
-    if !is_told_by(alloc, log, tree, events, ordered.lines.as_slice())? {
+    if !is_told_by(alloc, log, &told.tree, events, ordered.lines.as_slice())? {
         return Err(unheld(log));
     }
-    let said = said_of(alloc, log, tree, unseen)?;
-    Ok(said)
+    said_of(alloc, log, &told.tree, &told.unseen)
 }
 
 /// What is said of what was found.
@@ -105,7 +99,6 @@ pub(crate) fn is_told_by(
     requires { IsTrue (is_well_formed log.now.board) }
     ensures { IfOk result (λ told. IsTrue told → Tells log.now tree.now (acts_of events.now)) }
 {
-    let acts = acts_of(alloc, events)?;
-    let told = is_told(alloc, log, tree.board(), acts.as_slice(), lines)?;
+    let told = is_told(alloc, log, tree.board(), events, lines)?;
     Ok(told)
 }

@@ -1,14 +1,14 @@
 //! The texts that are written for a log, with what is said of it behind the first line of the
 //! board.
-ghost use Rattle.std.specs.Prelude.{◌≡◌, ◌<◌, ◌^◌, length, string_bytes, Ok, IfOk, IsTrue};
+ghost use Rattle.std.specs.Prelude.{◌≡◌, ◌<◌, ◌^◌, length, string_bytes, Ok, IfOk, IfErr, IsTrue};
 ghost use Rattle.std.specs.List.{All};
 ghost use Rattle.board_model.specs.Valid.{IsValid};
 ghost use Rattle.trace_text.specs.Events.{HasLine};
 ghost use Rattle.trace_reader.specs.Traces.{trace_read};
 ghost use Rattle.observe_order.specs.Going.{EndsLanded};
 ghost use Rattle.trace_roundtrip.specs.Comments.{AreComments};
+ghost use Rattle.program_status.specs.declared.status.Status.TheVariants.{NoMemory};
 
-use crate::acting::acts_of;
 use crate::drafting::{Told, Untold, told_by, unheld};
 use crate::reading::TreeLog;
 use crate::telling::{RunTold, said_of};
@@ -18,7 +18,8 @@ use history_model::Event;
 use observe_found::Unseen;
 use observe_order::Ordered;
 use observe_told::{ActsTold, Log};
-use pci_command::{List, NoMemory};
+use pci_command::List;
+use program_status::Status;
 use std::alloc::Global;
 use trace_roundtrip::{run_text, with_comments};
 use trace_text::{has_line, print_trace};
@@ -31,16 +32,19 @@ pub(crate) struct Draft {
 }
 
 /// The trace text of the run, which is read as this run.
-pub(crate) fn text_of_run(alloc: Global, run: &RunTold) -> Result<Vec<u8>, NoMemory>
+pub(crate) fn text_of_run(alloc: Global, run: &RunTold) -> Result<Vec<u8>, Status>
     requires run { EndsLanded run.now.tree run.now.events }
     requires few { length run.now.events < 2 ^ 32 }
     requires comments { AreComments (string_bytes run.now.said) }
     ensures valid { IsValid run.now.tree }
     ensures read { IfOk result
         (λ text. trace_read text.items ≡ Ok (run.now.tree, run.now.events)) }
+    ensures err { IfErr result (λ status. status ≡ NoMemory) }
 {
     let board = run.tree.board();
-    let text = run_text(alloc, board, run.events.as_slice())?;
+    let Ok(text) = run_text(alloc, board, run.events.as_slice()) else {
+        return Err(Status::NoMemory);
+    };
     let whole = with_comments(alloc, text.as_slice(), run.said.as_bytes())?;
     Ok(whole)
 }
@@ -52,25 +56,35 @@ pub(crate) fn draft_acts(alloc: Global, read: &TreeLog) -> Result<Draft, Untold>
         unseen,
         ordered,
     } = told_by(alloc, read)?;
-    let (acts, lines) = all_acts(alloc, ordered)?;
-    let text = text_of_acts(alloc, &read.log, &tree, &unseen, acts.as_slice())?;
+    let (acts, lines) = all_acts(ordered);
+    let text = text_of_acts(alloc, &read.log, &tree, &unseen, acts.as_slice());
+    with_lines(text, lines)
+}
+
+/// The text with the lines of its acts.
+fn with_lines(text: Result<Vec<u8>, Untold>, lines: List<u32>) -> Result<Draft, Untold> {
+    let text = text?;
     Ok(Draft { text, lines })
 }
 
 /// All acts, and the places of their lines in the log.
-fn all_acts(alloc: Global, ordered: Ordered) -> Result<(List<Event>, List<u32>), NoMemory> {
+fn all_acts(ordered: Ordered) -> (List<Event>, List<u32>) {
     let Ordered {
         events,
         lines,
         stopped,
     } = ordered;
     match stopped {
-        Some(ActsTold { acts, lines, .. }) => Ok((acts, lines)),
-        None => {
-            let acts = acts_of(alloc, events.as_slice())?;
-            Ok((List::from_vec(acts), lines))
-        }
+        Some(ActsTold { acts, lines, .. }) => (acts, lines),
+        None => (acts_among(events), lines),
     }
+}
+
+/// The events that are no arrivals.
+fn acts_among(events: List<Event>) -> List<Event> {
+    let mut acts = events.into_vec();
+    acts.retain(|event| matches!(event, Event::Act { .. }));
+    List::from_vec(acts)
 }
 
 /// The trace text of these acts, if each of them has a line.

@@ -2,14 +2,14 @@
 use Rattle.std.proofs.Common.{◌≡◌, ℕ, zero, suc, ◌+◌, ◌<◌, ◌≤◌, Bool, true, false, cond, eqb, List, [], ◌∷◌, length, drop, get_or, max, Some, inl, inr, refl, sym, ap, subst, ◌∙◌, arith}
 use Rattle.std.specs.List.{slice_get}
 use Rattle.std.proofs.Math.ListN.{set}
-use Rattle.std.proofs.Math.Seq.{drop-cons}
 use Rattle.std.proofs.lemmas.Bool.{cases_eq}
 use Rattle.std.proofs.lemmas.Bool.Decides.{nat_tests}
-use Rattle.std.proofs.lemmas.Option.{slice_get_within, slice_get-get_or}
+use Rattle.std.proofs.lemmas.Option.{slice_get_within, slice_get-get_or, get_or_from_slice_get}
 use Rattle.std.proofs.lemmas.Grind.{get_or-set_at}
 use Rattle.std.proofs.lemmas.List.{get_or-set_other, drop_all, length-set}
 use Rattle.board_model.specs.declared.board.Board.{Board}
 use Rattle.history_model.specs.declared.event.Event.{Event}
+use Rattle.law_early.specs.Early.{acts_of}
 use Rattle.observe_told.specs.declared.seen.Seen.{Seen}
 use Rattle.observe_told.specs.declared.seen.Log.{Log}
 use Rattle.observe_log.specs.declared.shown.Shown.{Shown}
@@ -17,8 +17,9 @@ use Rattle.observe_log.specs.Acts.{IsOf, Follows, is_over}
 use Rattle.observe_log.specs.Told.{acts_of_line}
 use Rattle.observe_told.specs.Addresses.{phases_of_line}
 use Rattle.observe_log.specs.Rows.{row_of}
-use Rattle.observe_log.specs.Checks.{AllFollow, AllOver, AllInOrder}
+use Rattle.observe_log.specs.Checks.{is_act, AllFollow, AllOver, AllInOrder}
 use Rattle.observe_log.specs.Loops.{Reaches, FollowSo, OverSo, StandSo}
+use Rattle.observe_log.proofs.EventLemmas.{acts_skip, acts_keep, drop_one}
 
 -- one element changed: it is the new one there, and the others are as they were
 pub get_set_same : {X : Type 0} (xs : List X) (i : ℕ) (y : X) → i < length xs → slice_get (set xs i y) i ≡ Some y
@@ -129,57 +130,76 @@ reaches_begun log board acts lines before = record {
       subst (λ (s : Shown). Follows log board seen s (acts_of_line n acts lines) last) same follows;
 }
 
--- before the first act
-pub follow_none : (log : Log) (board : Board) (acts : List Event) (lines : List ℕ) (before : List Shown) → FollowSo log board acts lines before before 0
-follow_none log board acts lines before = record {
+-- before the first event
+pub follow_none : (log : Log) (board : Board) (events : List Event) (lines : List ℕ) (before : List Shown) → FollowSo log board events lines before before 0 0
+follow_none log board events lines before = record {
+  among = refl;
   of_lines = λ j n within at. absurd (omega arith);
   each = refl;
-  reaches = reaches_begun log board acts lines before;
+  reaches = reaches_begun log board (acts_of events) lines before;
 }
 
--- one act more, by the places in the lists
-pub follow_next : (log : Log) (board : Board) (acts : List Event) (lines : List ℕ) (before now : List Shown) (k : ℕ) (d : Event) (seen : Seen) (s next : Shown)
-    → length lines ≡ length acts → length before ≡ length log.lines → k < length acts
-    → slice_get log.lines (get_or lines k 0) ≡ Some seen → IsOf log board seen (get_or now (get_or lines k 0) s) (get_or acts k d) next
-    → FollowSo log board acts lines before now k
-    → FollowSo log board acts lines before (set now (get_or lines k 0) next) (k + 1)
-follow_next log board acts lines before now k d seen s next beside long within there of old =
-    let n : ℕ = get_or lines k 0 in
-    let act : Event = get_or acts k d in
-    let in_lines : k < length lines = omega (arith, beside, within) in
+-- an arrival more
+pub follow_skip : (log : Log) (board : Board) (events : List Event) (lines : List ℕ) (before now : List Shown) (i acts : ℕ) (d : Event)
+    → i < length events → is_act (get_or events i d) ≡ false
+    → FollowSo log board events lines before now i acts
+    → FollowSo log board events lines before now (i + 1) acts
+follow_skip log board events lines before now i acts d within arrives old =
+    let later : acts_of (drop i events) ≡ acts_of (drop (i + 1) events) = ap acts_of (drop_one events i d within) ∙ acts_skip (get_or events i d) (drop (i + 1) events) arrives in
+    record {
+      among = ap (λ (l : List Event). acts + length l) (sym later) ∙ old.among;
+      of_lines = old.of_lines;
+      each = old.each;
+      reaches = subst (λ (l : List Event). Reaches log board (acts_of events) lines before now l (drop acts lines)) later old.reaches;
+    }
+
+-- an act more, of the line that stands beside it
+pub follow_next : (log : Log) (board : Board) (events : List Event) (lines : List ℕ) (before now : List Shown) (i acts n : ℕ) (d : Event) (seen : Seen) (s next : Shown)
+    → length before ≡ length log.lines → i < length events → is_act (get_or events i d) ≡ true → slice_get lines acts ≡ Some n
+    → slice_get log.lines n ≡ Some seen → IsOf log board seen (get_or now n s) (get_or events i d) next
+    → FollowSo log board events lines before now i acts
+    → FollowSo log board events lines before (set now n next) (i + 1) (acts + 1)
+follow_next log board events lines before now i acts n d seen s next long within is place there of old =
+    let act : Event = get_or events i d in
+    let in_lines : acts < length lines = slice_get_within lines acts n place in
     let in_log : n < length log.lines = slice_get_within log.lines n seen there in
     let in_now : n < length now = omega (arith, in_log, long, old.each) in
     let was : slice_get now n ≡ Some (get_or now n s) = slice_get-get_or now n s in_now in
-    let more : k + 1 ≡ suc k = omega arith in
-    let acts_are : drop k acts ≡ act ∷ drop (k + 1) acts = drop-cons acts k d within ∙ ap (λ (m : ℕ). act ∷ drop m acts) (sym more) in
-    let lines_are : drop k lines ≡ n ∷ drop (k + 1) lines = drop-cons lines k 0 in_lines ∙ ap (λ (m : ℕ). n ∷ drop m lines) (sym more) in
-    let here : Reaches log board acts lines before now (act ∷ drop (k + 1) acts) (n ∷ drop (k + 1) lines) =
-    subst (λ (l : List ℕ). Reaches log board acts lines before now (act ∷ drop (k + 1) acts) l) lines_are
-    (subst (λ (l : List Event). Reaches log board acts lines before now l (drop k lines)) acts_are old.reaches) in
+    let later : acts_of (drop i events) ≡ act ∷ acts_of (drop (i + 1) events) = ap acts_of (drop_one events i d within) ∙ acts_keep act (drop (i + 1) events) is in
+    let n_is : get_or lines acts 0 ≡ n = get_or_from_slice_get lines acts n 0 place in
+    let lines_are : drop acts lines ≡ n ∷ drop (acts + 1) lines = drop_one lines acts 0 in_lines ∙ ap (λ (m : ℕ). m ∷ drop (acts + 1) lines) n_is in
+    let here : Reaches log board (acts_of events) lines before now (act ∷ acts_of (drop (i + 1) events)) (n ∷ drop (acts + 1) lines) =
+    subst (λ (l : List ℕ). Reaches log board (acts_of events) lines before now (act ∷ acts_of (drop (i + 1) events)) l) lines_are
+    (subst (λ (l : List Event). Reaches log board (acts_of events) lines before now l (drop acts lines)) later old.reaches) in
+    let longer : length (acts_of (drop i events)) ≡ suc (length (acts_of (drop (i + 1) events))) = ap (λ (l : List Event). length l) later in
     record {
+      among = omega (arith, longer, old.among);
       of_lines = λ j m inside at.
-          elim (cases_eq j k) [
+          elim (cases_eq j acts) [
             | inl same ↦
-                let place : slice_get lines k ≡ Some m = ap (slice_get lines) (sym same) ∙ at in
-                let is : slice_get lines k ≡ Some n = slice_get-get_or lines k 0 in_lines in
+                let here_is : slice_get lines acts ≡ Some m = ap (slice_get lines) (sym same) ∙ at in
                 let one : n ≡ m = cc in
                 omega (arith, one, in_log)
             | inr other ↦ old.of_lines j m (omega (arith, inside, other)) at
           ];
       each = length-set now n next ∙ old.each;
-      reaches = reaches_more log board acts lines before now act (drop (k + 1) acts) n (drop (k + 1) lines) seen (get_or now n s) next there was of here;
+      reaches = reaches_more log board (acts_of events) lines before now act (acts_of (drop (i + 1) events)) n (drop (acts + 1) lines) seen (get_or now n s) next there was of here;
     }
 
--- behind the last act
-pub follow_all : (log : Log) (board : Board) (acts : List Event) (lines : List ℕ) (before now : List Shown) (k : ℕ)
-    → length lines ≡ length acts → length acts ≤ k → FollowSo log board acts lines before now k → AllFollow log board acts lines before now
-follow_all log board acts lines before now k beside most old = record {
-  each = old.each;
-  of_lines = λ j n at. let within = slice_get_within lines j n at in old.of_lines j n (omega (arith, within, beside, most)) at;
-  follow = λ n seen first last there first_is last_is.
-      let none : Follows log board seen last (acts_of_line n (drop k acts) (drop k lines)) last = rw (drop_all k acts most) refl in
-      old.reaches.follow n seen first last last there first_is last_is none;
-}
+-- behind the last event, where there are no more lines
+pub follow_all : (log : Log) (board : Board) (events : List Event) (lines : List ℕ) (before now : List Shown) (i acts : ℕ)
+    → length events ≤ i → acts ≡ length lines → FollowSo log board events lines before now i acts → AllFollow log board (acts_of events) lines before now
+follow_all log board events lines before now i acts most all old =
+    let none : acts_of (drop i events) ≡ [] = ap acts_of (drop_all i events most) in
+    let counted : length (acts_of (drop i events)) ≡ 0 = ap (λ (l : List Event). length l) none in
+    record {
+      beside = omega (arith, counted, all, old.among);
+      each = old.each;
+      of_lines = λ j n at. let within = slice_get_within lines j n at in old.of_lines j n (omega (arith, within, all)) at;
+      follow = λ n seen first last there first_is last_is.
+          let done : Follows log board seen last (acts_of_line n (acts_of (drop i events)) (drop acts lines)) last = rw none refl in
+          old.reaches.follow n seen first last last there first_is last_is done;
+    }
 
 -- the lines, one more
 pub over_none : (log : Log) (shown : List Shown) → OverSo log shown 0

@@ -8,6 +8,7 @@ pub mod BoardLemmas
 pub mod LineLemmas
 pub mod SameLemmas
 pub mod ActLemmas
+pub mod EventLemmas
 pub mod FollowLemmas
 pub mod BegunLemmas
 pub mod ToldLemmas

@@ -4,6 +4,7 @@ use Rattle.pci_command.specs.declared.op_id.OpId.{OpId}
 use Rattle.board_model.specs.declared.agents.Master.{Master}
 use Rattle.board_model.specs.declared.board.Board.{Board}
 use Rattle.history_model.specs.declared.event.Event.{Event}
+use Rattle.history_model.specs.declared.event.Event.TheVariants.{Act, Arrive}
 use Rattle.observe_told.specs.declared.seen.Seen.{Seen}
 use Rattle.observe_told.specs.declared.seen.Log.{Log}
 use Rattle.observe_told.specs.Addresses.{phases_of_line}
@@ -12,8 +13,14 @@ use Rattle.observe_log.specs.Rows.{row_of}
 use Rattle.observe_log.specs.Acts.{Follows, is_over}
 use Rattle.observe_log.specs.Told.{acts_of_line, InOrder, presents, latches_one, InTurn, IsBegun}
 
--- the acts of each line follow what was shown of it, up to what is shown
+-- the event is no arrival
+abbrev pub is_act : Event → Bool
+is_act (Act on by o step place) = true
+is_act (Arrive lane mark) = false
+
+-- there is a line for each act, and the acts of each line follow what was shown of it, up to what is shown
 pub record AllFollow (log : Log) (board : Board) (acts : List Event) (lines : List ℕ) (before shown : List Shown) : Type 0 where
+  pub beside : length lines ≡ length acts
   pub each : length shown ≡ length before
   pub of_lines : (k n : ℕ) → slice_get lines k ≡ Some n → n < length log.lines
   pub follow : (n : ℕ) (seen : Seen) (first last : Shown) → slice_get log.lines n ≡ Some seen → slice_get before n ≡ Some first

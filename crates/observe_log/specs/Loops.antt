@@ -3,6 +3,7 @@ use Rattle.std.specs.Prelude.{◌≡◌, ℕ, ◌+◌, ◌*◌, ◌<◌, ◌≤�
 use Rattle.board_model.specs.declared.agents.Master.{Master}
 use Rattle.board_model.specs.declared.board.Board.{Board}
 use Rattle.history_model.specs.declared.event.Event.{Event}
+use Rattle.law_early.specs.Early.{acts_of}
 use Rattle.observe_told.specs.declared.seen.Seen.{Seen}
 use Rattle.observe_told.specs.declared.seen.Log.{Log}
 use Rattle.observe_log.specs.declared.shown.Shown.{Shown}
@@ -25,11 +26,13 @@ pub record StandSo (seen : List Seen) (lines : List ℕ) (count : ℕ) (last : L
   pub places : (j m : ℕ) (earlier : Seen) → j < count → slice_get lines j ≡ Some m → slice_get seen m ≡ Some earlier → m ≤ slice_index last earlier.bus
   pub starts : (j m : ℕ) (earlier : Seen) → j < count → slice_get lines j ≡ Some m → slice_get seen m ≡ Some earlier → earlier.start ≤ latest_start
 
--- the first so many acts are of lines of the log, and follow what was shown before, up to what is shown now
-pub record FollowSo (log : Log) (board : Board) (acts : List Event) (lines : List ℕ) (before now : List Shown) (count : ℕ) : Type 0 where
-  pub of_lines : (j n : ℕ) → j < count → slice_get lines j ≡ Some n → n < length log.lines
+-- so many acts are among the first so many events; they are of lines of the log, and follow what was shown before, up to what is
+-- shown now
+pub record FollowSo (log : Log) (board : Board) (events : List Event) (lines : List ℕ) (before now : List Shown) (count acts : ℕ) : Type 0 where
+  pub among : acts + length (acts_of (drop count events)) ≡ length (acts_of events)
+  pub of_lines : (j n : ℕ) → j < acts → slice_get lines j ≡ Some n → n < length log.lines
   pub each : length now ≡ length before
-  pub reaches : Reaches log board acts lines before now (drop count acts) (drop count lines)
+  pub reaches : Reaches log board (acts_of events) lines before now (acts_of (drop count events)) (drop acts lines)
 
 -- all of each of the first so many lines is shown
 pub record OverSo (log : Log) (shown : List Shown) (count : ℕ) : Type 0 where

@@ -1,11 +1,12 @@
 ghost use Rattle.std.specs.Prelude.{◌≡◌, ◌<◌, map, length, IfOk, IsTrue};
 ghost use Rattle.board_model.specs.WellFormed.{is_well_formed};
+ghost use Rattle.law_early.specs.Early.{acts_of};
 ghost use Rattle.observe_told.specs.Addresses.{phases_of_line};
 ghost use Rattle.observe_log.specs.Rows.{row_of};
 ghost use Rattle.observe_log.specs.Acts.{is_over};
 ghost use Rattle.observe_log.specs.Told.{AreToldBy, is_latch};
-ghost use Rattle.observe_log.specs.Checks.{AllFollow, AllOver, AllInOrder, AreNone, GoesOn};
-ghost use Rattle.observe_log.specs.Checks.{TakesTurn, turn_behind, AreBegun, AllBegin};
+ghost use Rattle.observe_log.specs.Checks.{is_act, AllFollow, AllOver, AllInOrder, AreNone};
+ghost use Rattle.observe_log.specs.Checks.{GoesOn, TakesTurn, turn_behind, AreBegun, AllBegin};
 
 use crate::acts::act_of;
 use crate::boards::is_seen_board;
@@ -18,24 +19,25 @@ use observe_told::{Log, Seen};
 use pci_command::{NoMemory, OpId};
 use std::alloc::Global;
 
-/// Whether these acts of this board are told by the log, where the act at each place is of the line
-/// at that place, by its place in the lines of the log, from 0. Acts stand oldest first; an
-/// arrival is told by no line.
+/// Whether the acts of these events of this board are told by the log, where each act is of the
+/// line at its place among the acts, by the place of the line in the log, from 0. Events stand
+/// oldest first; arrivals are passed over, since no line tells of them.
 pub fn is_told(
     alloc: Global,
     log: &Log,
     board: &Board,
-    acts: &[Event],
+    events: &[Event],
     lines: &[u32],
 ) -> Result<bool, NoMemory>
     requires { IsTrue (is_well_formed log.now.board) }
-    ensures { IfOk result (λ told. IsTrue told → AreToldBy log.now board.now acts.now lines.now) }
+    ensures { IfOk result
+        (λ told. IsTrue told → AreToldBy log.now board.now (acts_of events.now) lines.now) }
 {
     let mut shown = nothing_shown(alloc, log.lines.as_slice())?;
     let mut turns = no_turns(alloc, board.masters.as_slice())?;
     let shown = shown.as_mut_slice();
     let turns = turns.as_mut_slice();
-    Ok(are_told(log, board, acts, lines, shown, turns))
+    Ok(are_told(log, board, events, lines, shown, turns))
 }
 
 /// The same, where nothing is shown yet of any line, and no operation is begun of any master.
@@ -43,7 +45,7 @@ pub fn is_told(
 fn are_told(
     log: &Log,
     board: &Board,
-    acts: &[Event],
+    events: &[Event],
     lines: &[u32],
     shown: &mut [Shown],
     turns: &mut [u32],
@@ -51,12 +53,12 @@ fn are_told(
     requires formed { IsTrue (is_well_formed log.now.board) }
     requires nothing { shown.old ≡ map (λ _. Shown.Dwords 0) log.now.lines }
     requires none { turns.old ≡ map (λ _. 0) board.now.masters }
-    ensures { IsTrue result → AreToldBy log.now board.now acts.now lines.now }
+    ensures { IsTrue result → AreToldBy log.now board.now (acts_of events.now) lines.now }
 {
-    if lines.len() != acts.len() || !is_seen_board(&log.board, board) {
+    if !is_seen_board(&log.board, board) {
         return false;
     }
-    if !all_follow(log, board, acts, lines, shown) {
+    if !all_follow(log, board, events, lines, shown) {
         return false;
     }
     if !all_over(log, shown) {
@@ -65,7 +67,7 @@ fn are_told(
     if !are_in_order(log.lines.as_slice(), lines) {
         return false;
     }
-    if !count_begun(acts, turns) {
+    if !count_begun(events, turns) {
         return false;
     }
     all_begin(board.masters.as_slice(), turns)
@@ -78,26 +80,50 @@ fn nothing_shown(alloc: Global, lines: &[Seen]) -> Result<Vec<Shown>, NoMemory>
     Ok(lines.iter().map(|_line| Shown::Dwords(0)).collect(alloc)?)
 }
 
-/// Whether each act is one of its line, behind those before it; what all have shown is put in
-/// the place of what was shown before.
+/// Whether each act is one of its line, behind those before it, and there are as many lines; what
+/// all have shown is put in the place of what was shown before.
 #[tactic(auto, using(crate::proofs::FollowLemmas::follow_steps))]
-fn all_follow(log: &Log, board: &Board, acts: &[Event], lines: &[u32], shown: &mut [Shown]) -> bool
+fn all_follow(
+    log: &Log,
+    board: &Board,
+    events: &[Event],
+    lines: &[u32],
+    shown: &mut [Shown],
+) -> bool
     requires formed { IsTrue (is_well_formed log.now.board) }
-    requires beside { length lines.now ≡ length acts.now }
     requires each { length shown.old ≡ length log.now.lines }
-    ensures { IsTrue result → AllFollow log.now board.now acts.now lines.now shown.old shown.new }
+    ensures { IsTrue result →
+        AllFollow log.now board.now (acts_of events.now) lines.now shown.old shown.new }
 {
-    for (k, act) in acts.iter().enumerate() {
-        let n = lines[k] as usize;
+    let mut acts = 0;
+    for event in events {
+        if !is_act(event) {
+            continue;
+        }
+        let Some(place) = lines.get(acts) else {
+            return false;
+        };
+        let n = *place as usize;
         let Some(seen) = log.lines.as_slice().get(n) else {
             return false;
         };
-        match act_of(log, board, seen, shown[n], act) {
-            Some(next) => shown[n] = next,
-            None => return false,
-        }
+        let Some(next) = act_of(log, board, seen, shown[n], event) else {
+            return false;
+        };
+        shown[n] = next;
+        acts += 1;
     }
-    true
+    acts == lines.len()
+}
+
+/// Whether an event is no arrival.
+fn is_act(event: &Event) -> bool
+    ensures { result ≡ is_act event.now }
+{
+    match event {
+        Event::Act { .. } => true,
+        Event::Arrive { .. } => false,
+    }
 }
 
 /// Whether the acts have shown all of each line.
@@ -161,12 +187,12 @@ fn no_turns(alloc: Global, masters: &[Master]) -> Result<Vec<u32>, NoMemory>
 
 /// Counts the operations of each master that have an act, where they come one after the other.
 #[tactic(auto, using(crate::proofs::BegunLemmas::begun_steps))]
-fn count_begun(acts: &[Event], turns: &mut [u32]) -> bool
+fn count_begun(events: &[Event], turns: &mut [u32]) -> bool
     requires { AreNone turns.old }
-    ensures { IsTrue result → AreBegun acts.now (length acts.now) turns.new }
+    ensures { IsTrue result → AreBegun events.now (length events.now) turns.new }
 {
-    for act in acts {
-        if !begin(act, turns) {
+    for event in events {
+        if !begin(event, turns) {
             return false;
         }
     }

@@ -1,11 +1,12 @@
-ghost use Rattle.std.specs.Prelude.{IfOk, OnOk};
+ghost use Rattle.std.specs.Prelude.{◌≡◌, [], IfOk, OnOk};
 ghost use Rattle.observe_order.specs.Going.{IsGoing, EndsLanded};
 
 use crate::blame::blamed;
-use crate::going::Going;
+use crate::going::{begun, try_act};
 use crate::reasons::Past;
 use board_tree::Tree;
 use history_model::Event;
+use judge_next::Course;
 use machine_steps::bus_of;
 use observe_told::{ActsTold, Heads, Refused, Seen, SeenAct, event_of};
 use pci_command::{List, NoMemory};
@@ -43,7 +44,6 @@ impl Ordered {
 /// allows it, the bus whose line began first before the others. Acts of one bus stand in the order
 /// of its lines, and those of a line that ended before another began come first. The time grows
 /// with the number of acts, and that of the buses.
-#[tactic(auto, using(crate::proofs::GoingLemmas::ends))]
 pub fn order(
     alloc: Global,
     tree: &Tree,
@@ -52,12 +52,9 @@ pub fn order(
 ) -> Result<Ordered, NoMemory>
     ensures { IfOk result (λ ordered. EndsLanded tree.now ordered.events) }
 {
-    let mut going = Going::new(alloc, tree, acts.len().saturating_mul(2))?;
-    let Taken { lines, stopped } = order_all(alloc, &mut going, tree, acts, lines)?;
-    let Going {
-        events,
-        course: _course,
-    } = going;
+    let mut heads = Heads::new(alloc, acts, lines)?;
+    let mut events = Vec::with_capacity(alloc, acts.len().saturating_mul(2))?;
+    let Taken { lines, stopped } = order_into(alloc, tree, &mut heads, &mut events)?;
     Ok(Ordered {
         events: List::from_vec(events),
         lines,
@@ -65,40 +62,55 @@ pub fn order(
     })
 }
 
+/// The run begins, and goes on by all acts that are allowed: these are its events.
+fn order_into(
+    alloc: Global,
+    tree: &Tree,
+    heads: &mut Heads,
+    events: &mut Vec<Event>,
+) -> Result<Taken, NoMemory>
+    requires { events.old.items ≡ [] }
+    ensures { OnOk result (EndsLanded tree.now events.new.items) }
+{
+    let mut course = begun(alloc, tree)?;
+    order_all(alloc, &mut course, events, tree, heads)
+}
+
+/// The run goes on by all acts that are allowed.
 fn order_all(
     alloc: Global,
-    going: &mut Going,
+    course: &mut Course,
+    events: &mut Vec<Event>,
     tree: &Tree,
-    acts: &[SeenAct],
-    lines: &[Seen],
+    heads: &mut Heads,
 ) -> Result<Taken, NoMemory>
-    requires { IsGoing tree.now going.old.events.items going.old.course }
-    ensures { OnOk result (IsGoing tree.now going.new.events.items going.new.course) }
+    requires { IsGoing tree.now events.old.items course.old }
+    ensures { OnOk result (IsGoing tree.now events.new.items course.new) }
 {
-    let mut heads = Heads::new(alloc, acts, lines)?;
-    let mut taken = Vec::with_capacity(alloc, acts.len())?;
-    go_on(going, tree, &mut heads, &mut taken)?;
-    tell(alloc, going, tree, &heads, taken)
+    let mut taken = Vec::with_capacity(alloc, heads.total())?;
+    go_on(course, events, tree, heads, &mut taken)?;
+    tell(alloc, course, tree, heads, taken)
 }
 
 /// Acts are taken as long as one is allowed. Whether one is goes by what happened on its bus, so
 /// that one which is refused is not tried again before something does.
 fn go_on(
-    going: &mut Going,
+    course: &mut Course,
+    events: &mut Vec<Event>,
     tree: &Tree,
     heads: &mut Heads,
     taken: &mut Vec<u32>,
 ) -> Result<(), NoMemory>
-    requires { IsGoing tree.now going.old.events.items going.old.course }
-    ensures { OnOk result (IsGoing tree.now going.new.events.items going.new.course) }
+    requires { IsGoing tree.now events.old.items course.old }
+    ensures { OnOk result (IsGoing tree.now events.new.items course.new) }
 {
     for _act in 0..heads.total() {
-        let before = going.events.len();
-        match take_first(going, tree, heads)? {
+        let before = events.len();
+        match take_first(course, events, tree, heads)? {
             Some(place) => {
                 taken.push(heads.take(place))?;
-                let events = going.events.as_slice().get(before..);
-                stir(heads, tree, events.unwrap_or(&[]));
+                let happened = events.as_slice().get(before..);
+                stir(heads, tree, happened.unwrap_or(&[]));
             }
             None => return Ok(()),
         }
@@ -114,15 +126,20 @@ fn stir(heads: &mut Heads, tree: &Tree, events: &[Event]) {
 }
 
 /// The place of the first of the candidates that is allowed: it happens.
-fn take_first(going: &mut Going, tree: &Tree, heads: &mut Heads) -> Result<Option<usize>, NoMemory>
-    requires { IsGoing tree.now going.old.events.items going.old.course }
-    ensures { OnOk result (IsGoing tree.now going.new.events.items going.new.course) }
+fn take_first(
+    course: &mut Course,
+    events: &mut Vec<Event>,
+    tree: &Tree,
+    heads: &mut Heads,
+) -> Result<Option<usize>, NoMemory>
+    requires { IsGoing tree.now events.old.items course.old }
+    ensures { OnOk result (IsGoing tree.now events.new.items course.new) }
 {
     for place in 0..heads.candidates().len() {
         let Some(event) = heads.untried(place) else {
             continue;
         };
-        if going.try_act(tree, &event)?.is_none() {
+        if try_act(course, events, tree, &event)?.is_none() {
             return Ok(Some(place));
         }
         heads.refuse(place);
@@ -133,14 +150,14 @@ fn take_first(going: &mut Going, tree: &Tree, heads: &mut Heads) -> Result<Optio
 /// The lines of the acts that were taken, and where one is left that which is named and all others.
 fn tell(
     alloc: Global,
-    going: &Going,
+    course: &Course,
     tree: &Tree,
     heads: &Heads,
     taken: Vec<u32>,
 ) -> Result<Taken, NoMemory> {
     let stopped = match heads.candidates() {
         [] => None,
-        _ => stop(alloc, going, tree, heads, taken.as_slice())?,
+        _ => stop(alloc, course, tree, heads, taken.as_slice())?,
     };
     let lines = List::from_vec(lines_at(heads, taken));
     Ok(Taken { lines, stopped })
@@ -150,7 +167,7 @@ fn tell(
 /// the others behind them.
 fn stop(
     alloc: Global,
-    going: &Going,
+    course: &Course,
     tree: &Tree,
     heads: &Heads,
     taken: &[u32],
@@ -158,7 +175,7 @@ fn stop(
     let mut acts = acts_at(alloc, heads, taken)?;
     let count = acts.len();
     let past = Past {
-        kept: going.course.kept(),
+        kept: course.kept(),
         board: tree.board(),
         taken: acts.as_slice(),
         heads,

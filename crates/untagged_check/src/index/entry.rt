@@ -1,7 +1,7 @@
 use pci_command::OpId;
 
 /// A write, and how many events there were before it landed whole; `usize::MAX` where it did not.
-#[derive(Clone, Copy, Debug)]
+#[derive(Clone, Copy)]
 pub(crate) struct Write {
     pub op: OpId,
     pub landed: usize,

@@ -1,5 +1,8 @@
-use Rattle.command_observe.proofs.AnswerLemmas.{untold_refuses}
+use Rattle.command_observe.proofs.AnswerLemmas.{untold_refuses, has_run}
 use Rattle.command_observe.proofs.answer.run_of_input.Goals as goal
 
+pub returns-clause-ok : goal.returns-clause-ok
+returns-clause-ok c = has_run c.args.input.now c.in_ok-read.read c.run_told.result c.in_ok-read.ensures.ok c.run_told.ensures.ok
+
 pub returns-clause-err : goal.returns-clause-err
-returns-clause-err c = untold_refuses c.args.input.now c.in_ok-read.read c.in-Err.untold c.status_of.result c.in_ok-read.ensures.ok c.status_of.ensures
+returns-clause-err c = untold_refuses c.args.input.now c.in_ok-read.read c.run_told.result c.in_ok-read.ensures.ok c.run_told.ensures.err

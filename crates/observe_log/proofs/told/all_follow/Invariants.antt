@@ -2,5 +2,5 @@ use Rattle.observe_log.specs.Loops.{FollowSo}
 use Rattle.observe_log.proofs.told.all_follow.Given as goal
 
 -- the acts so far follow
-abbrev pub invariant-loop-k : goal.invariant-loop-k
-invariant-loop-k l = FollowSo l.log l.board l.acts l.lines l.initial.shown l.shown l.k
+abbrev pub invariant-loop-event : goal.invariant-loop-event
+invariant-loop-event l = FollowSo l.log l.board l.events l.lines l.initial.shown l.shown l.event-index l.acts

@@ -1,5 +1,5 @@
 use Rattle.observe_log.specs.Checks.{AreBegun}
 use Rattle.observe_log.proofs.told.count_begun.Given as goal
 
-abbrev pub invariant-loop-act : goal.invariant-loop-act
-invariant-loop-act l = AreBegun l.acts l.act-index l.turns
+abbrev pub invariant-loop-event : goal.invariant-loop-event
+invariant-loop-event l = AreBegun l.events l.event-index l.turns

@@ -3,4 +3,4 @@ use Rattle.observe_order.proofs.ordering.go_on.Given as goal
 
 -- the run goes on
 abbrev pub invariant-loop-act : goal.invariant-loop-act
-invariant-loop-act l = IsGoing l.tree l.going.events.items l.going.course
+invariant-loop-act l = IsGoing l.tree l.events.items l.course

@@ -1,8 +1,0 @@
-use Rattle.std.proofs.Common.{[]}
-use Rattle.observe_order.proofs.GoingLemmas.{begins}
-use Rattle.observe_order.proofs.going.Going.new.Goals as goal
-
--- what is kept stands for no event
-pub returns : goal.returns
-returns c =
-    begins c.args.tree.now c.in_ok-events.events.items c.in_ok-course.course c.in_ok-events.ensures.items (c.in_ok-course.ensures [] c.in_ok-kept.ensures)
