@@ -22,7 +22,9 @@ pub fn answer_observe(alloc: Global, input: &[u8]) -> Result<Vec<u8>, Status>
     ensures err { IfErr result (RefusesObserve input.now) }
 {
     let run = run_of_input(alloc, input)?;
-    text_of_run(alloc, &run)
+    let text = text_of_run(alloc, &run);
+    drop(run);
+    text
 }
 
 /// The run that the log of these bytes tells of; the log is let go before its text is written.
@@ -33,7 +35,9 @@ fn run_of_input(alloc: Global, input: &[u8]) -> Result<RunTold, Status>
     ensures err { IfErr result (RefusesObserve input.now) }
 {
     let read = read_tree_log(alloc, input)?;
-    run_told(alloc, &read)
+    let run = run_told(alloc, &read);
+    drop(read);
+    run
 }
 
 /// The trace of the acts that a log tells of, without arrivals: those of a run, or of one up to an
@@ -45,7 +49,9 @@ pub fn answer_acts(alloc: Global, input: &[u8]) -> Result<Answered, Status>
     ensures err { IfErr result (RefusesObserve input.now) }
 {
     let read = read_tree_log(alloc, input)?;
-    acts_text(alloc, &read)
+    let answer = acts_text(alloc, &read);
+    drop(read);
+    answer
 }
 
 #[tactic(auto, using(crate::proofs::AnswerLemmas::ends_by, crate::proofs::AnswerLemmas::is_untold))]

@@ -1,6 +1,6 @@
 //! What a log tells, as it was found. Of what was found nothing is claimed but that its events are
 //! a run of its board.
-ghost use Rattle.std.specs.Prelude.{IfOk, IfSome, IsTrue};
+ghost use Rattle.std.specs.Prelude.{IfOk, IsTrue};
 ghost use Rattle.board_model.specs.WellFormed.{is_well_formed};
 ghost use Rattle.observe_order.specs.Going.{EndsLanded};
 
@@ -71,24 +71,23 @@ pub(crate) fn told_by(alloc: Global, read: &TreeLog) -> Result<Told, Untold>
     ensures { IfOk result (λ told. EndsLanded told.tree told.ordered.events) }
 {
     let told = told_with(alloc, read, Times::Meet)?;
-    match told_apart(alloc, read, &told.ordered)? {
-        Some(apart) => Ok(apart),
-        None => Ok(told),
-    }
-}
-
-/// What the log tells where times are apart, if its acts are no run in this order and then are one.
-fn told_apart(alloc: Global, read: &TreeLog, met: &Ordered) -> Result<Option<Told>, Untold>
-    ensures { IfOk result
-        (λ told. IfSome told (λ told. EndsLanded told.tree told.ordered.events)) }
-{
-    if met.refused().is_none() {
-        return Ok(None);
+    if told.ordered.refused().is_none() {
+        return Ok(told);
     }
     match told_with(alloc, read, Times::Apart) {
-        Ok(apart) if apart.ordered.refused().is_none() => Ok(Some(apart)),
-        Err(Untold::NoMemory) => Err(Untold::NoMemory),
-        Ok(_) | Err(_) => Ok(None),
+        Ok(apart) if apart.ordered.refused().is_none() => {
+            drop(told);
+            Ok(apart)
+        }
+        Ok(apart) => {
+            drop(apart);
+            Ok(told)
+        }
+        Err(Untold::NoMemory) => {
+            drop(told);
+            Err(Untold::NoMemory)
+        }
+        Err(_) => Ok(told),
     }
 }
 

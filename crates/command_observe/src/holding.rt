@@ -25,7 +25,9 @@ pub(crate) fn holds_acts(
     ensures { IfOk result (HoldsActs log.now text.now) }
 {
     let read = read_again(alloc, log, text)?;
-    verdict_on(alloc, log, &read, lines)
+    let verdict = verdict_on(alloc, log, &read, lines);
+    drop(read);
+    verdict
 }
 
 /// Whether a run has the acts, where the log tells of them.

@@ -17,13 +17,6 @@ pub struct Retelling {
     told: Retold,
 }
 
-/// The same without the log.
-#[derive(Drop)]
-struct Found {
-    tree: Option<Tree>,
-    told: Retold,
-}
-
 impl Retelling {
     /// The same, lent.
     pub fn refused(&self) -> RefusedLog<'_> {
@@ -48,33 +41,36 @@ pub fn retell(alloc: Global, input: &[u8]) -> Result<Option<Retelling>, NoMemory
 }
 
 fn retold(alloc: Global, read: TreeLog) -> Result<Retelling, NoMemory> {
-    let found = found_in(alloc, &read)?;
-    Ok(retelling(read, found))
-}
-
-/// What the log tells, and the tree of the board that was found, if one was.
-fn found_in(alloc: Global, read: &TreeLog) -> Result<Found, NoMemory> {
-    match tell(alloc, &read.tree, &read.log, Times::Meet) {
-        Ok(Told { tree, ordered, .. }) => Ok(Found {
-            tree: Some(tree),
-            told: Retold::Acts(acts_told(alloc, ordered)),
-        }),
-        Err(Unfound::NoMemory) => Err(NoMemory),
-        Err(unfound) => Ok(Found {
-            tree: None,
+    let TreeLog { tree, log } = read;
+    match tell(alloc, &tree, &log, Times::Meet) {
+        Ok(told) => {
+            drop(tree);
+            Ok(retelling(alloc, log, told))
+        }
+        Err(Unfound::NoMemory) => {
+            drop(tree);
+            drop(log);
+            Err(NoMemory)
+        }
+        Err(unfound) => Ok(Retelling {
+            log,
+            tree,
             told: Retold::Nothing(unfound),
         }),
     }
 }
 
-/// The log with what it tells.
-fn retelling(read: TreeLog, found: Found) -> Retelling {
-    let TreeLog { tree, log } = read;
-    let tree = found.tree.unwrap_or(tree);
+fn retelling(alloc: Global, log: Log, told: Told) -> Retelling {
+    let Told {
+        tree,
+        unseen,
+        ordered,
+    } = told;
+    drop(unseen);
     Retelling {
         log,
         tree,
-        told: found.told,
+        told: Retold::Acts(acts_told(alloc, ordered)),
     }
 }
 

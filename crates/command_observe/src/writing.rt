@@ -58,11 +58,8 @@ pub(crate) fn draft_acts(alloc: Global, read: &TreeLog) -> Result<Draft, Untold>
     } = told_by(alloc, read)?;
     let (acts, lines) = all_acts(ordered);
     let text = text_of_acts(alloc, &read.log, &tree, &unseen, acts.as_slice());
-    with_lines(text, lines)
-}
-
-/// The text with the lines of its acts.
-fn with_lines(text: Result<Vec<u8>, Untold>, lines: List<u32>) -> Result<Draft, Untold> {
+    drop(tree);
+    drop(unseen);
     let text = text?;
     Ok(Draft { text, lines })
 }

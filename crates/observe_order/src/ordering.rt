@@ -73,7 +73,9 @@ fn order_into(
     ensures { OnOk result (EndsLanded tree.now events.new.items) }
 {
     let mut course = begun(alloc, tree)?;
-    order_all(alloc, &mut course, events, tree, heads)
+    let taken = order_all(alloc, &mut course, events, tree, heads);
+    drop(course);
+    taken
 }
 
 /// The run goes on by all acts that are allowed.
