@@ -133,7 +133,7 @@ reaches_begun log board acts lines before = record {
 -- before the first event
 pub follow_none : (log : Log) (board : Board) (events : List Event) (lines : List ℕ) (before : List Shown) → FollowSo log board events lines before before 0 0
 follow_none log board events lines before = record {
-  among = refl;
+  among = omega arith;
   of_lines = λ j n within at. absurd (omega arith);
   each = refl;
   reaches = reaches_begun log board (acts_of events) lines before;
