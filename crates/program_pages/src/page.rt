@@ -2,9 +2,7 @@ ghost use Rattle.std.specs.Prelude.{◌≡◌, IsTrue, IfSome, find};
 ghost use Rattle.std.specs.Option.{option_map};
 ghost use Rattle.program_pages.specs.Pages.{has_code};
 
-use crate::{
-    DEVICE_PAGES, Fault, LINE_PAGES, LOG_PAGES, MACHINE_PAGES, TRACE_PAGES, TREE_PAGES,
-};
+use crate::{DEVICE_PAGES, Fault, LINE_PAGES, LOG_PAGES, MACHINE_PAGES, TRACE_PAGES, TREE_PAGES};
 use history_model::Why;
 use std::fmt;
 

@@ -69,12 +69,7 @@ impl Course {
     }
 
     /// What these events are, which happen one after another. What their reads got is given away.
-    fn follow(
-        &mut self,
-        alloc: Global,
-        tree: &Tree,
-        events: &[Event],
-    ) -> Result<Followed, NoMemory>
+    fn follow(&mut self, alloc: Global, tree: &Tree, events: &[Event]) -> Result<Followed, NoMemory>
         requires course { IsCourse tree.now [] self.old }
         requires few { length events.now < 2 ^ 32 }
         ensures { IfOk result (Follows tree.now events.now) }
