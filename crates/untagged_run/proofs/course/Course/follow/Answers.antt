@@ -1,8 +1,9 @@
-use Rattle.std.proofs.Common.{List, take, sym, subst, arith}
+use Rattle.std.proofs.Common.{List, Option, take, sym, ap, subst, arith}
 use Rattle.history_model.specs.declared.event.Event.{Event}
 use Rattle.history_model.specs.declared.rule.Rule.TheVariants.{Untagged}
 use Rattle.history_model.specs.Runs.{RunBy, history_of}
 use Rattle.judge_state.proofs.RefusedLemmas.{refused_by}
+use Rattle.untagged_run.specs.declared.got.Got.{Got}
 use Rattle.untagged_run.specs.Course.{CourseState, AreGots}
 use Rattle.untagged_run.proofs.FollowLemmas.{Upto, upto_more, upto_all}
 use Rattle.untagged_run.proofs.course.Course.follow.Goals as goal
@@ -27,4 +28,4 @@ returns c =
     let upto : Upto c.args.tree.now c.args.events.now c.loop-index.index c.loop-index.self = c.loop-index.invariant in
     let all = upto_all c.args.tree.now c.args.events.now c.loop-index.index c.loop-index.self (omega arith) upto in
     let run : RunBy Untagged c.args.tree.now (history_of c.args.events.now) = all.0.stands.run in
-    (run, subst (λ (s : CourseState). AreGots c.args.tree.now c.args.events.now s.gots) (sym c.course-2.view_is) all.1)
+    (run, subst (λ (gots : List (Option Got)). AreGots c.args.tree.now c.args.events.now gots) (sym (ap (λ kept. kept.items) c.replace-gots.ensures.value)) (subst (λ (s : CourseState). AreGots c.args.tree.now c.args.events.now s.gots) (sym c.self.view_is) all.1))
