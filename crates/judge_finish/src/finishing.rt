@@ -11,7 +11,7 @@ use history_model::Event;
 use judge_next::Course;
 use judge_state::{Kept, take_all};
 use law_delivered::laws_of_runs;
-use pci_command::List;
+use pci_command::{List, NoMemory};
 use std::alloc::Global;
 
 /// The events of a run, and behind them those with which it goes on to the end of all programs,
@@ -23,7 +23,7 @@ pub fn finish(alloc: Global, tree: &Tree, events: List<Event>) -> Result<List<Ev
     ensures err { IfErr result (IsUnfinished tree.now events) }
 {
     let mut course = course_of(alloc, tree, events.as_slice())?;
-    to_the_end(&mut course, tree, events)
+    Ok(to_the_end(&mut course, tree, events)?)
 }
 
 /// The course of the run of these events, if they are one.
@@ -55,10 +55,9 @@ fn to_the_end(
     course: &mut Course,
     tree: &Tree,
     events: List<Event>,
-) -> Result<List<Event>, Unfinished>
+) -> Result<List<Event>, NoMemory>
     requires { IsCourse tree.now (history_of events) course.old }
-    ensures ok { IfOk result (Finishes tree.now events) }
-    ensures err { IfErr result (IsUnfinished tree.now events) }
+    ensures { IfOk result (Finishes tree.now events) }
 {
     let mut whole = events.into_vec();
     while let Some(event) = go_on(course, tree) {

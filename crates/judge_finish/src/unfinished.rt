@@ -1,6 +1,5 @@
 use history_model::Why;
 use pci_command::NoMemory;
-use std::alloc::AllocError;
 use thiserror::Error;
 
 /// Why events were not taken to the end of all programs.
@@ -21,17 +20,6 @@ impl From<NoMemory> for Unfinished {
     ghost from_gives = { λ _ given. given ≡ NoMemory };
 
     fn from(_refused: NoMemory) -> Unfinished {
-        Unfinished::NoMemory
-    }
-}
-
-impl From<AllocError> for Unfinished {
-    ghost use Rattle.std.specs.Prelude.{◌≡◌};
-    ghost use Rattle.judge_finish.specs.declared.unfinished.Unfinished.TheVariants.{NoMemory};
-
-    ghost from_gives = { λ _ given. given ≡ NoMemory };
-
-    fn from(_refused: AllocError) -> Unfinished {
         Unfinished::NoMemory
     }
 }

@@ -29,8 +29,8 @@ loop-event-smaller c =
     left_fell board whole c.push.new.self.items e pushed by.lowers
 
 -- where there is no next event the run is complete, and all laws hold of it
-pub returns-clause-ok : goal.returns-clause-ok
-returns-clause-ok c =
+pub returns : goal.returns
+returns c =
     let board : Board = c.args.tree.now in
     let whole : List Event = c.loop-event.whole.items in
     let ends = c.in_default.ensures (history_of whole) c.loop-event.invariant.1 in
