@@ -34,13 +34,12 @@ pub(crate) fn order_of(
 ) -> Result<Vec<usize>, NoMemory>
     requires { IsOrdered table.now }
 {
+    let Gathered { polls, writers } = gathered;
     let mut walk = Walk::over(alloc, ops.len())?;
     for _ in ops {
         let place = walk.next_place()?;
         if let Some(op) = ops.get(place) {
-            let raisers = gathered
-                .polls
-                .raisers(alloc, table, &gathered.writers, *op)?;
+            let raisers = polls.raisers(alloc, table, writers, *op)?;
             walk.enter(ops, place, *op, raisers.as_slice())?;
         }
     }
@@ -99,13 +98,12 @@ impl Walk {
     fn put_before(&mut self, ops: &[OpId], op: OpId) -> Result<(), NoMemory> {
         let count = ops.partition_point(|poll| is_listed_before(*poll, op));
         let place = count.saturating_sub(1);
-        match ops.get(place) {
-            Some(poll) if poll.master == op.master && poll.index < op.index => {
+        if let Some(poll) = ops.get(place) {
+            if poll.master == op.master && poll.index < op.index {
                 self.steps.push(Step::Enter(place))?;
-                Ok(())
             }
-            _ => Ok(()),
         }
+        Ok(())
     }
 }
 
