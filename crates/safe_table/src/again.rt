@@ -6,6 +6,7 @@ ghost use Rattle.safe_table.specs.Bounds.{AreOf, BoundsAll, Fell};
 use crate::fall::lower_poll;
 use crate::gathered::Gathered;
 use crate::known::ClockTable;
+use crate::order::order_of;
 use crate::polls::awaited_by;
 use crate::writers::first_named;
 use audit_clocks::WordTable;
@@ -14,39 +15,78 @@ use board_tree::Tree;
 use pci_command::{NoMemory, OpId, Request};
 use std::alloc::Global;
 
-/// By each dword the places of the polls that wait for it; and which polls, by their places, may fall
-/// since others did: of which nothing is claimed.
+/// In which order the polls are looked at, by their places; how often that was done; when each was
+/// looked at last; which is the first that waits for the same dword, also by the dword; and by that
+/// one when writes of the dword came to know less. So it is seen which polls may fall since they were
+/// looked at: of which nothing is claimed.
 #[derive(Drop)]
 struct Again {
-    waiting: WordTable<Vec<usize>>,
-    marked: Vec<bool>,
+    order: Vec<usize>,
+    time: usize,
+    looked: Vec<usize>,
+    firsts: Vec<usize>,
+    waiting: WordTable<usize>,
+    touched: Vec<usize>,
 }
 
 impl Again {
-    /// To begin with all polls.
-    fn of(alloc: Global, board: &Board, ops: &[OpId]) -> Result<Again, NoMemory>
+    /// To begin with all polls may.
+    fn of(alloc: Global, board: &Board, ops: &[OpId], order: Vec<usize>) -> Result<Again, NoMemory>
         requires { IsDecodable board.now }
     {
-        let mut waiting = WordTable::new(alloc);
-        let mut marked = Vec::new(alloc);
+        let mut again = Again {
+            order,
+            time: 0,
+            looked: Vec::new(alloc),
+            firsts: Vec::new(alloc),
+            waiting: WordTable::new(alloc),
+            touched: Vec::new(alloc),
+        };
         for (place, op) in ops.iter().enumerate() {
-            if let Some(awaited) = awaited_by(board, *op) {
-                put_waiting(&mut waiting, alloc, awaited.word, place)?;
-            }
-            marked.push(true)?;
+            let first = match awaited_by(board, *op) {
+                Some(awaited) => again.first(awaited.word, place)?,
+                None => place,
+            };
+            again.firsts.push(first)?;
+            again.looked.push(0)?;
+            again.touched.push(0)?;
         }
-        Ok(Again { waiting, marked })
+        Ok(again)
     }
 
-    /// The poll at the place if it is among them, which it is no longer.
+    /// The first poll that waits for the dword, as the one at the place does.
+    fn first(&mut self, word: Word, place: usize) -> Result<usize, NoMemory> {
+        if let Some(first) = self.waiting.get(word) {
+            return Ok(*first);
+        }
+        self.waiting.put(word, place)?;
+        Ok(place)
+    }
+
+    /// The place of the poll whose turn it is.
+    fn place(&self, turn: usize) -> usize {
+        self.order.get(turn).copied().unwrap_or(turn)
+    }
+
+    /// The poll at the place, if it may fall: it is looked at now.
     fn take(&mut self, ops: &[OpId], place: usize) -> Option<OpId>
         ensures { IfSome result (λ op. Contains ops.now op) }
     {
-        if place < self.marked.len() && self.marked[place] {
-            self.marked[place] = false;
+        if self.may_fall(place) {
+            self.time = self.time.saturating_add(1);
+            set(&mut self.looked, place, self.time);
             ops.get(place).copied()
         } else {
             None
+        }
+    }
+
+    /// Whether it was not looked at since the writes of its dword were touched, or not at all.
+    fn may_fall(&self, place: usize) -> bool {
+        let first = self.firsts.get(place).copied().unwrap_or(place);
+        match (self.looked.get(place), self.touched.get(first)) {
+            (Some(looked), Some(touched)) => *looked <= *touched,
+            _ => false,
         }
     }
 
@@ -57,7 +97,7 @@ impl Again {
     {
         match (ops.get(place), ops.get(place.saturating_add(1))) {
             (Some(poll), Some(next)) if fell && next.master == poll.master => {
-                mark(&mut self.marked, place.saturating_add(1));
+                set(&mut self.looked, place.saturating_add(1), 0);
                 self.mark_written(board, *poll, next.index);
             }
             (Some(poll), _) if fell => self.mark_written(board, *poll, u16::MAX),
@@ -71,61 +111,38 @@ impl Again {
     {
         for index in poll.index.saturating_add(1)..end {
             let op = OpId { index, ..poll };
-            match request_of(board, op, 0) {
-                None => return,
-                Some(request) => self.mark_request(&request, first_named(board, op)),
+            match (request_of(board, op, 0), first_named(board, op)) {
+                (None, _) => return,
+                (Some(request), Some(first)) => self.mark_request(&request, first),
+                _ => {}
             }
         }
     }
 
     /// Those that wait for what the request writes, from the first of its dwords on.
-    fn mark_request(&mut self, request: &Request, first: Option<Word>) {
-        match first {
-            Some(first) if !request.command.is_read() => {
-                self.mark_dwords(first, request.phases.len());
-            }
-            _ => {}
+    fn mark_request(&mut self, request: &Request, first: Word) {
+        if request.command.is_read() {
+            return;
         }
-    }
-
-    /// Those that wait for one of so many dwords from the first on.
-    fn mark_dwords(&mut self, first: Word, count: usize) {
         let mut address = first.address;
-        for _ in 0..count {
+        for _ in 0..request.phases.len() {
             let word = Word { address, ..first };
-            if let Some(places) = self.waiting.get(word) {
-                for place in places {
-                    mark(&mut self.marked, *place);
-                }
+            if let Some(first) = self.waiting.get(word) {
+                set(&mut self.touched, *first, self.time);
             }
             address = address.saturating_add(4);
         }
     }
 }
 
-fn mark(marked: &mut Vec<bool>, place: usize) {
-    if place < marked.len() {
-        marked[place] = true;
+fn set(times: &mut Vec<usize>, place: usize, time: usize) {
+    if place < times.len() {
+        times[place] = time;
     }
 }
 
-/// The poll at the place waits for the dword.
-fn put_waiting(
-    waiting: &mut WordTable<Vec<usize>>,
-    alloc: Global,
-    word: Word,
-    place: usize,
-) -> Result<(), NoMemory> {
-    let mut places = match waiting.take(word) {
-        Some(places) => places,
-        None => Vec::new(alloc),
-    };
-    places.push(place)?;
-    waiting.put(word, places)
-}
-
-/// It falls behind all polls, and then again and again behind those that may fall since others did,
-/// until none does.
+/// It falls behind all polls, each behind those that it depends on, and then again and again behind
+/// those that may fall since others did, until none does.
 pub(crate) fn lower_again(
     alloc: Global,
     tree: &Tree,
@@ -138,7 +155,8 @@ pub(crate) fn lower_again(
     ensures low { OnOk result (sum_all table.new ≤ sum_all table.old) }
     ensures bounds { OnOk result (BoundsAll tree.now table.new) }
 {
-    let mut again = Again::of(alloc, tree.board(), ops)?;
+    let order = order_of(alloc, gathered, table, ops)?;
+    let mut again = Again::of(alloc, tree.board(), ops, order)?;
     loop {
         let fell = lower_these(alloc, tree, gathered, table, ops, &mut again)?;
         if !fell {
@@ -162,7 +180,8 @@ fn lower_these(
     ensures bounds { OnOk result (BoundsAll tree.now table.new) }
 {
     let mut fell = false;
-    for place in 0..ops.len() {
+    for turn in 0..ops.len() {
+        let place = again.place(turn);
         let op = again.take(ops, place);
         let here = lower_if(alloc, tree, gathered, table, ops, op)?;
         again.mark_behind(here, tree.board(), ops, place);

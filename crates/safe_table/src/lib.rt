@@ -12,6 +12,7 @@ mod gathered;
 mod known;
 mod largest;
 mod list;
+mod order;
 mod polls;
 mod program;
 mod row;

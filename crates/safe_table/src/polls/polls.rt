@@ -113,6 +113,19 @@ impl Polls {
         Ok(raised)
     }
 
+    /// Of the poll's raisers those that tell it what all do, if it is told something.
+    pub(crate) fn raisers(
+        &self,
+        alloc: Global,
+        table: &ClockTable,
+        writers: &Writers,
+        op: OpId,
+    ) -> Result<Vec<WordWrite>, NoMemory>
+        requires { IsOrdered table.now }
+    {
+        raisers(alloc, self.of(op), table, writers, op)
+    }
+
     /// What is kept of the operation.
     fn of(&self, op: OpId) -> Option<&KeptPoll>
         ensures { option_copied result ≡ poll_at self.now op }
