@@ -138,10 +138,10 @@ tells_run log run text is valid read =
     }
 
 -- what is written of it answers it
-pub observes : {A : Type 0} (input : List ℕ) (run : RunTold) (items : A → List ℕ) (written : Result A Status) → HasRun input run → IsValid run.tree
+pub observes : {A : Type 0} (input : List ℕ) (run : RunTold) (written : Result A Status) (items : A → List ℕ) → HasRun input run → IsValid run.tree
     → IfOk written (λ text. trace_read (items text) ≡ Ok (run.tree, run.events)) → IfOk written (λ text. AnswersObserve input (items text))
-observes input run items (Ok text) has valid read = record { log = has.log; reads = has.reads; writes = tells_run has.log run (items text) has.of_log valid read }
-observes input run items (Err status) has valid read = tt
+observes input run (Ok text) items has valid read = record { log = has.log; reads = has.reads; writes = tells_run has.log run (items text) has.of_log valid read }
+observes input run (Err status) items has valid read = tt
 
 -- and for want of memory nothing is
 pub observes_none : {A : Type 0} (input : List ℕ) (written : Result A Status) → IfErr written (λ status. status ≡ NoMemory) → IfErr written (RefusesObserve input)

@@ -1,5 +1,5 @@
 //! The run that a log tells of, with what is said of it.
-ghost use Rattle.std.specs.Prelude.{◌≡◌, ◌<◌, ◌^◌, length, string_bytes, IfOk, IfErr, IsTrue};
+ghost use Rattle.std.specs.Prelude.{◌<◌, ◌^◌, length, string_bytes, IfOk, IfErr, IsTrue};
 ghost use Rattle.board_model.specs.WellFormed.{is_well_formed};
 ghost use Rattle.law_early.specs.Early.{acts_of};
 ghost use Rattle.observe_log.specs.Told.{Tells};
@@ -37,29 +37,20 @@ pub(crate) fn run_told(alloc: Global, read: &TreeLog) -> Result<RunTold, Status>
 {
     let told = told_by(alloc, read)?;
     match said_of_run(alloc, &read.log, &told) {
-        Ok(said) => Ok(run_of(told, said)),
+        Ok(said) => {
+            let Told {
+                tree,
+                unseen,
+                ordered,
+            } = told;
+            drop(unseen);
+            let events = ordered.events;
+            Ok(RunTold { tree, events, said })
+        }
         Err(untold) => {
             drop(told);
             Err(Status::from(untold))
         }
-    }
-}
-
-fn run_of(told: Told, said: String) -> RunTold
-    ensures tree { result.tree ≡ told.tree }
-    ensures events { result.events ≡ told.ordered.events }
-    ensures said { result.said ≡ said }
-{
-    let Told {
-        tree,
-        unseen,
-        ordered,
-    } = told;
-    drop(unseen);
-    RunTold {
-        tree,
-        events: ordered.events,
-        said,
     }
 }
 
