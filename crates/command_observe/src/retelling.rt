@@ -45,7 +45,7 @@ fn retold(alloc: Global, read: TreeLog) -> Result<Retelling, NoMemory> {
     match tell(alloc, &tree, &log, Times::Meet) {
         Ok(told) => {
             drop(tree);
-            Ok(retelling(alloc, log, told))
+            Ok(with_acts(alloc, log, told))
         }
         Err(Unfound::NoMemory) => {
             drop(tree);
@@ -60,7 +60,8 @@ fn retold(alloc: Global, read: TreeLog) -> Result<Retelling, NoMemory> {
     }
 }
 
-fn retelling(alloc: Global, log: Log, told: Told) -> Retelling {
+/// The log with the acts that it tells.
+fn with_acts(alloc: Global, log: Log, told: Told) -> Retelling {
     let Told {
         tree,
         unseen,
