@@ -1,19 +1,20 @@
-use Rattle.std.proofs.Common.{List, subst}
+use Rattle.std.proofs.Common.{List, ℕ, subst}
 use Rattle.std.proofs.lemmas.Result.{IfOk-weaker}
 use Rattle.history_model.specs.declared.event.Event.{Event}
-use Rattle.command_traces.specs.report.Answers.{Reports}
+use Rattle.command_traces.specs.report.Answers.{AnswersReport, Reports}
 use Rattle.command_traces.proofs.report.answer.answer_report.Goals as goal
 
 pub returns-clause-ok : goal.returns-clause-ok
 returns-clause-ok c =
     let read = c.in_ok-read.read in
     let reads = c.in_ok-read.ensures.ok in
-    IfOk-weaker _ _ _
-    (λ text reported. record {
+    let answers : (text : List ℕ) → Reports read.tree c.as_slice.result.now text → AnswersReport c.args.input.now text = λ text told. record {
       board = read.tree;
       events = read.events;
       reads = reads.reads;
       valid = reads.valid;
-      reports = subst (λ (l : List Event). Reports read.tree l text.items) c.as_slice.ensures reported;
-    })
+      reports = subst (λ (l : List Event). Reports read.tree l text) c.as_slice.ensures told;
+    } in
+    IfOk-weaker _ _ _
+    (λ text told. answers text.items told)
     c.text_of_run.ensures.ok
