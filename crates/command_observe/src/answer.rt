@@ -21,9 +21,9 @@ pub fn answer_observe(alloc: Global, input: &[u8]) -> Result<Vec<u8>, Status>
     ensures ok { IfOk result (λ text. AnswersObserve input.now text.items) }
     ensures err { IfErr result (RefusesObserve input.now) }
 {
-    let told = run_of_input(alloc, input)?;
-    let text = text_of_run(alloc, &told);
-    drop(told);
+    let found = run_of_input(alloc, input)?;
+    let text = text_of_run(alloc, &found);
+    drop(found);
     text
 }
 
