@@ -15,6 +15,6 @@ returns-clause-ok c =
       valid = reads.valid;
       audits = subst (λ (l : List Event). Audits read.tree l text) c.as_slice.ensures told;
     } in
-    IfOk-weaker _ _ _
+    IfOk-weaker c.text_of_run.result _ _
     (λ text told. answers text.items told)
     c.text_of_run.ensures.ok
