@@ -30,12 +30,12 @@ struct Again {
 }
 
 impl Again {
-    /// To begin with all polls may, in no other order than by their places.
-    fn of(alloc: Global, board: &Board, ops: &[OpId]) -> Result<Again, NoMemory>
+    /// To begin with all polls may.
+    fn of(alloc: Global, board: &Board, ops: &[OpId], order: Vec<usize>) -> Result<Again, NoMemory>
         requires { IsDecodable board.now }
     {
         let mut again = Again {
-            order: Vec::new(alloc),
+            order,
             time: 0,
             looked: Vec::new(alloc),
             firsts: Vec::new(alloc),
@@ -141,8 +141,8 @@ fn set(times: &mut Vec<usize>, place: usize, time: usize) {
     }
 }
 
-/// It falls behind all polls, and then again and again behind those that may fall since others did,
-/// each behind those that it depends on, until none does.
+/// It falls behind all polls, each behind those that it depends on, and then again and again behind
+/// those that may fall since others did, until none does.
 pub(crate) fn lower_again(
     alloc: Global,
     tree: &Tree,
@@ -155,14 +155,12 @@ pub(crate) fn lower_again(
     ensures low { OnOk result (sum_all table.new ≤ sum_all table.old) }
     ensures bounds { OnOk result (BoundsAll tree.now table.new) }
 {
-    let mut again = Again::of(alloc, tree.board(), ops)?;
+    let order = order_of(alloc, gathered, table, ops)?;
+    let mut again = Again::of(alloc, tree.board(), ops, order)?;
     loop {
         let fell = lower_these(alloc, tree, gathered, table, ops, &mut again)?;
         if !fell {
             return Ok(());
-        }
-        if again.order.is_empty() {
-            again.order = order_of(alloc, gathered, table, ops)?;
         }
     }
 }
