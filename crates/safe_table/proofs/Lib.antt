@@ -11,6 +11,7 @@ pub mod RaiserLemmas
 pub mod StretchLemmas
 pub mod StayLemmas
 pub mod ScanLemmas
+pub mod RaisingLemmas
 pub mod CleanLemmas
 pub mod RiseLemmas
 pub mod TellLemmas

@@ -2,6 +2,7 @@
 mod list;
 mod lists;
 mod named;
+mod raising;
 mod run;
 mod stretches;
 mod table;

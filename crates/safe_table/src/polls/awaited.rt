@@ -14,7 +14,7 @@ use machine_steps::opens_as;
 use pci_command::{OpId, Phase, Space};
 
 /// What a poll waits for: a value of a dword, under a mask.
-#[derive(Clone, Copy, Debug)]
+#[derive(Clone, Copy, Debug, PartialEq, Eq, Hash)]
 pub(crate) struct Awaited {
     pub word: Word,
     pub mask: u32,

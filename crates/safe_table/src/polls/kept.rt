@@ -103,12 +103,12 @@ fn raisers_for(
         (staying table.now poll awaited (writes_at awaited.word writers.now)
         (writes_at awaited.word writers.now))) }
 {
-    match writers.stretches(awaited.word) {
-        Some(writes) => {
-            let found = raisers_among(alloc, table, poll, awaited, writes)?;
+    match (writers.stretches(awaited.word), writers.raising(awaited)) {
+        (Some(writes), Some(raising)) => {
+            let found = raisers_among(alloc, table, poll, awaited, writes, raising)?;
             Ok(found)
         }
-        None => {
+        _ => {
             let words = writers.of_word(awaited.word);
             let found = raisers_anew(alloc, awaited, table, words, poll)?;
             Ok(found)
@@ -129,7 +129,7 @@ fn raisers_anew(
         (staying table.now poll awaited words.now words.now)) }
 {
     let writes = stretches_of(alloc, words)?;
-    let found = raisers_among(alloc, table, poll, awaited, &writes)?;
+    let found = raisers_among(alloc, table, poll, awaited, &writes, &writes)?;
     Ok(found)
 }
 
@@ -146,9 +146,11 @@ fn is_raised_for(
         table.now poll (writes_at awaited.word writers.now) f)
         (writes_at awaited.word writers.now)) }
 {
-    match writers.stretches(awaited.word) {
-        Some(writes) => Ok(is_any_reached(table, poll, awaited, writes)),
-        None => {
+    match (writers.stretches(awaited.word), writers.raising(awaited)) {
+        (Some(writes), Some(raising)) => {
+            Ok(is_any_reached(table, poll, awaited, writes, raising))
+        }
+        _ => {
             let words = writers.of_word(awaited.word);
             let raised = is_raised_anew(alloc, awaited, table, words, poll)?;
             Ok(raised)
@@ -168,7 +170,7 @@ fn is_raised_anew(
         && is_reached_in table.now poll words.now f) words.now) }
 {
     let writes = stretches_of(alloc, words)?;
-    Ok(is_any_reached(table, poll, awaited, &writes))
+    Ok(is_any_reached(table, poll, awaited, &writes, &writes))
 }
 
 impl KeptPoll {

@@ -8,6 +8,7 @@ ghost use Rattle.safe_table.specs.Polls.{raises_it, staying};
 ghost use Rattle.safe_table.specs.Stretches.{Stretch, AreStretches, first_before, PartsBefore};
 ghost use Rattle.safe_table.specs.Stretches.{AreBefore, AreAmong, PutsRun, ends_with, first_in};
 ghost use Rattle.safe_table.specs.Stretches.{IsParted, is_reached_at, list_of, stay};
+ghost use Rattle.safe_table.specs.Raising.{AreRaising};
 
 use crate::known::ClockTable;
 use crate::polls::awaited::Awaited;
@@ -49,21 +50,24 @@ fn is_first_before(table: &ClockTable, poll: OpId, run: &[WordWrite]) -> bool
 /// out comes after it; the first of them knows no more than the others.
 ///
 /// The stretch where one stayed is the first that is looked at the next time: most often it stays
-/// again, and one look is enough.
+/// again, and one look is enough. Those that may raise it are looked for among the second of these,
+/// those by which they are left out among all writes of the dword.
 pub(crate) fn raisers_among(
     alloc: Global,
     table: &ClockTable,
     poll: OpId,
     awaited: Awaited,
     writes: &Stretches,
+    raising: &Stretches,
 ) -> Result<Vec<WordWrite>, NoMemory>
-    requires { IsOrdered table.now }
+    requires ordered { IsOrdered table.now }
+    requires raising { AreRaising awaited writes.now raising.now }
     ensures { IfOk result (λ found. TellAlike table.now poll found.items
         (staying table.now poll awaited writes.now writes.now)) }
 {
-    match guessed(table, poll, awaited, writes) {
+    match guessed(table, poll, awaited, writes, raising) {
         Some(last) => one(alloc, last),
-        None => raisers_among_all(alloc, table, poll, awaited, writes),
+        None => raisers_among_all(alloc, table, poll, awaited, writes, raising),
     }
 }
 
@@ -82,14 +86,15 @@ fn guessed(
     poll: OpId,
     awaited: Awaited,
     writes: &Stretches,
+    raising: &Stretches,
 ) -> Option<WordWrite>
-    requires { IsOrdered table.now }
+    requires ordered { IsOrdered table.now }
+    requires raising { AreRaising awaited writes.now raising.now }
     ensures { IfSome result (λ last. TellAlike table.now poll (last ∷ [])
         (staying table.now poll awaited writes.now writes.now)) }
 {
-    let runs = writes.runs();
-    match runs.get(writes.guess()) {
-        Some(these) => staying_in(table, poll, awaited, runs, these),
+    match raising.runs().get(raising.guess()) {
+        Some(these) => staying_in(table, poll, awaited, writes.runs(), these),
         None => None,
     }
 }
@@ -120,14 +125,17 @@ fn raisers_among_all(
     poll: OpId,
     awaited: Awaited,
     writes: &Stretches,
+    raising: &Stretches,
 ) -> Result<Vec<WordWrite>, NoMemory>
-    requires { IsOrdered table.now }
+    requires ordered { IsOrdered table.now }
+    requires raising { AreRaising awaited writes.now raising.now }
     ensures { IfOk result (λ found. TellAlike table.now poll found.items
         (staying table.now poll awaited writes.now writes.now)) }
 {
     let mut found = Vec::new(alloc);
-    let ended = put_raisers(&mut found, table, poll, awaited, writes.runs())?;
-    writes.guess_next(ended);
+    let (runs, among) = (writes.runs(), raising.runs());
+    let ended = put_raisers(&mut found, table, poll, awaited, runs, among)?;
+    raising.guess_next(ended);
     Ok(found)
 }
 
@@ -138,14 +146,17 @@ fn put_raisers(
     poll: OpId,
     awaited: Awaited,
     writes: &[Run],
+    raising: &[Run],
 ) -> Result<Option<usize>, NoMemory>
     requires ordered { IsOrdered table.now }
     requires writes { AreStretches writes.now }
+    requires raising { AreStretches raising.now }
+    requires among { AreAmong (joined writes.now) (joined raising.now) }
     requires none { found.old.items ≡ [] }
     ensures { OnOk result (TellAlike table.now poll found.new.items
-        (staying table.now poll awaited (joined writes.now) (joined writes.now))) }
+        (staying table.now poll awaited (joined writes.now) (joined raising.now))) }
 {
-    for (place, run) in writes.iter().enumerate() {
+    for (place, run) in raising.iter().enumerate() {
         let count = found.len();
         let ended = put_run(found, table, poll, awaited, writes, run)?;
         if ended {
@@ -373,28 +384,37 @@ pub(crate) fn is_any_reached(
     poll: OpId,
     awaited: Awaited,
     writes: &Stretches,
+    raising: &Stretches,
 ) -> bool
-    requires { IsOrdered table.now }
+    requires ordered { IsOrdered table.now }
+    requires raising { AreRaising awaited writes.now raising.now }
     ensures { result ≡ list_any (λ f. raises_it awaited f
         && is_reached_in table.now poll writes.now f) writes.now }
 {
     let runs = writes.runs();
-    match runs.get(writes.guess()) {
+    match raising.runs().get(raising.guess()) {
         Some(these) if is_run_reached(table, poll, awaited, runs, these) => true,
-        _ => is_any_run_reached(table, poll, awaited, writes),
+        _ => is_any_run_reached(table, poll, awaited, writes, raising),
     }
 }
 
 /// The same, and where to look first the next time.
-fn is_any_run_reached(table: &ClockTable, poll: OpId, awaited: Awaited, writes: &Stretches) -> bool
-    requires { IsOrdered table.now }
+fn is_any_run_reached(
+    table: &ClockTable,
+    poll: OpId,
+    awaited: Awaited,
+    writes: &Stretches,
+    raising: &Stretches,
+) -> bool
+    requires ordered { IsOrdered table.now }
+    requires raising { AreRaising awaited writes.now raising.now }
     ensures { result ≡ list_any (λ f. raises_it awaited f
         && is_reached_in table.now poll writes.now f) writes.now }
 {
-    let runs = writes.runs();
-    for (place, run) in runs.iter().enumerate() {
+    let (runs, among) = (writes.runs(), raising.runs());
+    for (place, run) in among.iter().enumerate() {
         if is_run_reached(table, poll, awaited, runs, run) {
-            writes.guess_next(Some(place));
+            raising.guess_next(Some(place));
             return true;
         }
     }

@@ -1,5 +1,6 @@
-ghost use Rattle.std.specs.Prelude.{◌≡◌, ◌≤◌, drop, length, map, reverse, take};
-ghost use Rattle.std.specs.List.{find};
+ghost use Rattle.std.specs.Prelude.{◌≡◌, ◌≤◌, [], ◌∷◌, ◌++◌, OnOk, if◌then◌else◌};
+ghost use Rattle.std.specs.Prelude.{drop, length, map, reverse, take};
+ghost use Rattle.std.specs.List.{filter, find};
 ghost use Rattle.std.specs.Option.{option_copied};
 ghost use Rattle.safe_table.specs.Polls.{raises_it};
 ghost use Rattle.safe_table.specs.Stretches.{from_first, value_in};
@@ -33,7 +34,7 @@ impl Model for Run {
 }
 
 impl Run {
-    ghost use Rattle.std.specs.Prelude.{IfOk, OnOk, [], ◌∷◌, ◌++◌};
+    ghost use Rattle.std.specs.Prelude.{IfOk};
 
     /// One.
     pub(crate) fn one(alloc: Global, write: WordWrite) -> Result<Run, NoMemory>
@@ -80,6 +81,35 @@ impl Run {
         rest
     }
 
+    /// Those that bring it are put behind others.
+    pub(crate) fn put_raising(
+        &self,
+        found: &mut Vec<WordWrite>,
+        awaited: Awaited,
+    ) -> Result<(), NoMemory>
+        ensures { OnOk result (found.new.items ≡
+            found.old.items ++ filter (raises_it awaited) self.now) }
+    {
+        let mut place = self.place_raising(awaited, 0);
+        while let Some(write) = self.as_slice().get(place) {
+            push_if(awaited.is_raised_by(write), found, *write)?;
+            place = self.place_raising(awaited, place + 1);
+        }
+        Ok(())
+    }
+
+    /// The place of the first behind so many that brings what is waited for, or past all of them.
+    fn place_raising(&self, awaited: Awaited, count: usize) -> usize
+        requires { count ≤ length self.now }
+        ensures within { result ≤ length self.now }
+        ensures behind { count ≤ result }
+        ensures place { drop result self.now ≡
+            from_first (raises_it awaited) (drop count self.now) }
+    {
+        let (_, values) = self.values.as_slice().split_at(count);
+        count + awaited.count_unmet(values)
+    }
+
     /// The last of so many that brings what is waited for.
     pub(crate) fn last_raising(&self, awaited: Awaited, count: usize) -> Option<&WordWrite>
         requires { count ≤ length self.now }
@@ -100,4 +130,14 @@ impl Run {
     pub(crate) fn guess_next(&self, place: usize) {
         self.guess.set(place);
     }
+}
+
+fn push_if(is_one: bool, found: &mut Vec<WordWrite>, write: WordWrite) -> Result<(), NoMemory>
+    ensures { OnOk result (found.new.items ≡
+        found.old.items ++ (if is_one then write ∷ [] else [])) }
+{
+    if is_one {
+        found.push(write)?;
+    }
+    Ok(())
 }

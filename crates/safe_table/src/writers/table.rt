@@ -1,4 +1,6 @@
+use crate::polls::Awaited;
 use crate::writers::lists::lists_of;
+use crate::writers::raising::{Raising, raising_of};
 use crate::writers::stretches::Stretches;
 use crate::writers::words::Words;
 use crate::writers::write::WordWrite;
@@ -9,12 +11,14 @@ use pci_command::NoMemory;
 use std::alloc::Global;
 use std::marker::Model;
 
-/// The writes of each dword of a board, in the order of master and index; and as stretches those of
-/// each dword that is polled. No word of the program calls it.
+/// The writes of each dword of a board, in the order of master and index; as stretches those of each
+/// dword that is polled; and apart those that raise what some polls wait for. No word of the program
+/// calls it.
 #[derive(Debug, Drop)]
 pub struct Writers {
     words: Words,
     lists: WordTable<Stretches>,
+    raising: Raising,
 }
 
 impl Model for Writers {
@@ -22,12 +26,13 @@ impl Model for Writers {
     ghost use Rattle.board_model.specs.declared.word.Word.{Word};
     ghost use Rattle.safe_table.specs.declared.writers.write.WordWrite.{WordWrite};
     ghost use Rattle.safe_table.specs.Writes.{KeepsLists};
+    ghost use Rattle.safe_table.specs.Raising.{KeepsRaising};
 
     ghost Value = { List (Word × List WordWrite) };
 
     ghost view = { λ k. k.words };
 
-    ghost invariant = { λ k. KeepsLists k.words k.lists };
+    ghost invariant = { λ k. KeepsLists k.words k.lists × KeepsRaising k.words k.raising };
 }
 
 impl Writers {
@@ -36,6 +41,7 @@ impl Writers {
     ghost use Rattle.audit_clocks.specs.Tables.{dword};
     ghost use Rattle.law_safe.specs.largest.Tests.{writes_of};
     ghost use Rattle.safe_table.specs.Writes.{writes_at, AreWrites, ListsWrites};
+    ghost use Rattle.safe_table.specs.Raising.{AreRaising};
 
     /// Of the writes of the board. It looks up each dword that a write names.
     pub fn new(alloc: Global, tree: &Tree) -> Result<Writers, NoMemory>
@@ -43,7 +49,12 @@ impl Writers {
     {
         let words = Words::new(alloc, tree)?;
         let lists = lists_of(alloc, tree, &words)?;
-        Ok(Writers { words, lists })
+        let raising = raising_of(alloc, tree, &words, &lists)?;
+        Ok(Writers {
+            words,
+            lists,
+            raising,
+        })
     }
 
     /// Those of this dword, in the order of master and index. It takes one look-up.
@@ -60,5 +71,17 @@ impl Writers {
         ensures { IfSome result (λ list. list.now ≡ writes_at word self.now) }
     {
         self.lists.get(word)
+    }
+
+    /// Those of the dword among which are all that raise what is awaited, where it is polled: no
+    /// others where they are listed apart.
+    pub(crate) fn raising(&self, awaited: Awaited) -> Option<&Stretches>
+        ensures { IfSome result (λ list.
+            AreRaising awaited (writes_at awaited.word self.now) list.now) }
+    {
+        match self.raising.of(awaited) {
+            Some(list) => Some(list),
+            None => self.lists.get(awaited.word),
+        }
     }
 }

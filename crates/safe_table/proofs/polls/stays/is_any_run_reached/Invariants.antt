@@ -8,4 +8,4 @@ use Rattle.safe_table.proofs.polls.stays.is_any_run_reached.Given as goal
 -- none of the stretches so far has one
 abbrev pub invariant-loop-place : goal.invariant-loop-place
 invariant-loop-place l =
-    list_any (λ f. raises_it l.awaited f && is_reached_in l.table l.poll (joined l.runs) f) (joined (drop l.place l.runs)) ≡ list_any (λ f. raises_it l.awaited f && is_reached_in l.table l.poll (joined l.runs) f) (joined l.runs)
+    list_any (λ f. raises_it l.awaited f && is_reached_in l.table l.poll (joined l.runs) f) (joined (drop l.place l.among)) ≡ list_any (λ f. raises_it l.awaited f && is_reached_in l.table l.poll (joined l.runs) f) (joined l.among)

@@ -1,8 +1,13 @@
 use Rattle.std.proofs.Common.{subst}
 use Rattle.safe_table.specs.Looks.{TellAlike}
-use Rattle.safe_table.specs.Polls.{staying}
+use Rattle.safe_table.proofs.RaisingLemmas.{among_joined, staying_joined}
 use Rattle.safe_table.proofs.polls.stays.raisers_among_all.Goals as goal
+
+pub put_raisers-requires-clause-among : goal.put_raisers-requires-clause-among
+put_raisers-requires-clause-among c = among_joined c.args.awaited c.args.writes.now c.args.raising.now c.runs-runs.result.now c.runs-among.result.now c.runs-runs.ensures.all c.runs-among.ensures.all c.requires.raising
 
 pub returns : goal.returns
 returns c =
-    subst (λ ws. TellAlike c.args.table.now c.args.poll c.put_raisers.new.found.items (staying c.args.table.now c.args.poll c.args.awaited ws ws)) c.runs.ensures.all c.in_ok-ended.ensures
+    subst (TellAlike c.args.table.now c.args.poll c.put_raisers.new.found.items)
+    (staying_joined c.args.awaited c.args.writes.now c.args.raising.now c.runs-runs.result.now c.runs-among.result.now c.runs-runs.ensures.all c.runs-among.ensures.all c.requires.raising c.args.table.now c.args.poll)
+    c.in_ok-ended.ensures
