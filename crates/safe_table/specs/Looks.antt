@@ -1,12 +1,12 @@
 -- What the rows of a table of clocks say of operations, and of writes that are kept.
-use Rattle.std.specs.Prelude.{◌≡◌, ℕ, ◌≤◌, Bool, true, List, map, not, ◌+◌, ◌==◌, ◌&&◌, ◌||◌, nat_lt, if◌then◌else◌}
+use Rattle.std.specs.Prelude.{◌≡◌, ℕ, ◌≤◌, Bool, true, List, [], ◌∷◌, map, not, ◌+◌, ◌==◌, ◌&&◌, ◌||◌, nat_lt, if◌then◌else◌}
 use Rattle.std.specs.List.{list_any}
 use Rattle.pci_command.specs.declared.op_id.OpId.{OpId}
 use Rattle.pci_command.specs.Same.{same_op}
 use Rattle.safe_model.specs.Clocks.{greater}
 use Rattle.law_safe.specs.largest.Tests.{least}
 use Rattle.safe_table.specs.declared.writers.write.WordWrite.{WordWrite}
-use Rattle.safe_table.specs.Rows.{ProgramRows, known_in, raised_at, RisesIn}
+use Rattle.safe_table.specs.Rows.{ProgramRows, number, known_in, raised_at, RisesIn}
 
 -- how many operations of a master an operation comes after
 abbrev pub clock_in : List ProgramRows → OpId → ℕ → ℕ
@@ -49,6 +49,11 @@ is_reached_in rows p writes f = not (left_out_in rows p writes f) && not (before
 -- what all of these know of one master's operations, and at most this
 abbrev pub known_to : List ProgramRows → List WordWrite → ℕ → ℕ → ℕ
 known_to rows raisers most other = least most (map (λ f. clock_past rows f.op other) raisers)
+
+-- of the first of these writes, if there is one, these numbers are known behind the last poll before it
+abbrev pub FirstKnows : List ProgramRows → List WordWrite → List ℕ → Type 0
+FirstKnows rows [] numbers = Unit {0}
+FirstKnows rows (w ∷ ws) numbers = (other : ℕ) → number numbers other ≡ known_in rows w.op.master w.op.index other
 
 -- what may be known of it behind the poll at most
 abbrev pub most_in : List ProgramRows → OpId → List WordWrite → ℕ → ℕ → ℕ

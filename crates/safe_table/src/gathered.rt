@@ -18,7 +18,7 @@ pub(crate) struct Gathered {
 pub(crate) fn gather(alloc: Global, tree: &Tree) -> Result<Gathered, NoMemory>
     ensures { IfOk result (λ gathered. AreKept tree.now gathered.writers gathered.polls) }
 {
-    let writers = Writers::new(alloc, tree)?;
+    let writers = Writers::with_raising(alloc, tree)?;
     let polls = Polls::new(alloc, tree, &writers)?;
     Ok(Gathered { writers, polls })
 }

@@ -129,7 +129,7 @@ impl ClockTable {
     }
 
     /// How many operations of each master are known behind the last poll before an operation.
-    fn numbers(&self, op: OpId) -> &[u16]
+    pub(crate) fn numbers(&self, op: OpId) -> &[u16]
         ensures { (other : ℕ) → number result.now other ≡ known_in self.now op.master op.index other }
     {
         match self.programs.as_slice().get(usize::from(op.master)) {
@@ -158,7 +158,7 @@ pub(crate) fn raised(known: usize, op: OpId, other: usize) -> usize
 }
 
 /// The same with the operation itself.
-fn past(known: usize, op: OpId, other: usize) -> usize
+pub(crate) fn past(known: usize, op: OpId, other: usize) -> usize
     ensures { result ≡ past_at known op other }
 {
     if other == usize::from(op.master) {

@@ -1,8 +1,9 @@
 ghost use Rattle.std.specs.Prelude.{◌≡◌};
 ghost use Rattle.safe_model.specs.Clocks.{greater};
-ghost use Rattle.safe_table.specs.Looks.{before_in, any_before, known_to, most_in};
+ghost use Rattle.safe_table.specs.Looks.{before_in, any_before, known_to, FirstKnows};
 
-use crate::known::{ClockTable, greater, lesser};
+use crate::known::{ClockTable, greater, lesser, past};
+use crate::row::number_at;
 use crate::writers::WordWrite;
 use pci_command::OpId;
 
@@ -20,18 +21,37 @@ pub(crate) fn is_any_before(table: &ClockTable, poll: OpId, writes: &[WordWrite]
     writes.iter().any(|write| is_before(table, write.op, poll))
 }
 
-/// What may be known of a master behind a poll at most, where these tell of it.
+/// What is known of each master behind the last poll before the first of these writes.
+pub(crate) fn known_to_first<'a>(table: &'a ClockTable, writes: &[WordWrite]) -> &'a [u16]
+    ensures { FirstKnows table.now writes.now result.now }
+{
+    match writes {
+        [first, ..] => table.numbers(first.op),
+        [] => &[],
+    }
+}
+
+/// What may be known of a master behind a poll at most, where so much is known before it and these
+/// tell of it, the first of whom knows these numbers.
 pub(crate) fn most_of(
     table: &ClockTable,
-    poll: OpId,
     raisers: &[WordWrite],
+    firsts: &[u16],
+    known: usize,
     most: usize,
     other: u16,
 ) -> usize
-    ensures { result ≡ most_in table.now poll raisers.now most other }
+    requires { FirstKnows table.now raisers.now firsts.now }
+    ensures { result ≡ greater known (known_to table.now raisers.now most other) }
 {
-    let known = table.look(poll, other);
-    known_over(table, raisers, known, most, other)
+    match raisers {
+        [first, others @ ..] => {
+            let master = usize::from(other);
+            let told = past(number_at(firsts, master), first.op, master);
+            known_over(table, others, known, lesser(most, told), other)
+        }
+        [] => greater(known, most),
+    }
 }
 
 /// What all of these writes know of a master, and at most this, or what is known anyway: once they

@@ -7,9 +7,10 @@ ghost use Rattle.safe_table.specs.Rows.{KeepsPolls, table_of};
 ghost use Rattle.safe_table.specs.Looks.{IsOrdered, TellAlike};
 ghost use Rattle.safe_table.specs.Writes.{ListsWrites};
 
-use crate::known::ClockTable;
+use crate::known::{ClockTable, raised};
 use crate::polls::kept::{KeptPoll, kept_of};
-use crate::polls::looks::most_of;
+use crate::polls::looks::{known_to_first, most_of};
+use crate::row::number_at;
 use crate::writers::{WordWrite, Writers};
 use board_model::{Board, Master, Op};
 use board_tree::Tree;
@@ -249,10 +250,12 @@ fn most_numbers(
         AreMost tree.now table.now op told raisers.now numbers.items) }
 {
     let board = tree.board();
+    let (before, firsts) = (table.numbers(op), known_to_first(table, raisers));
     let mut numbers = Vec::new(alloc);
     for (other, master) in board.masters.as_slice().iter().enumerate() {
+        let known = raised(number_at(before, other), op, other);
         let most = count_if(told, master);
-        numbers.push(most_of(table, op, raisers, most, other as u16))?;
+        numbers.push(most_of(table, raisers, firsts, known, most, other as u16))?;
     }
     Ok(numbers)
 }

@@ -17,22 +17,23 @@ use board_model::Board;
 use board_tree::Tree;
 use pci_command::{NoMemory, OpId};
 use std::alloc::Global;
-use std::collections::HashMap;
+use std::collections::{HashMap, HashSet};
 use std::marker::Model;
 
 /// A dword of fewer writes is looked through for each poll.
 const MANY: usize = 256;
-/// Of how many writes that raise the same no list is kept.
-const TOO_MANY: usize = 64;
+/// How many writes that raise the same are listed at most.
+const FEW: usize = 16;
 /// How many lists and writes in them are kept at most.
 const MOST_KEPT: usize = 65_536;
 
 /// Of what polls wait for the writes of its dword that raise it, as stretches: kept of dwords with
-/// many writes few of which raise it, as long as they are not too many in all. So a poll is looked at
-/// without looking through all writes of its dword.
+/// many writes few of which raise it, as long as they are not too many in all; and of what it is known
+/// that there are more. So a poll is looked at without looking through all writes of its dword.
 #[derive(Debug, Drop)]
 pub(crate) struct Raising {
     lists: HashMap<Awaited, Stretches>,
+    crowded: HashSet<Awaited>,
     kept: usize,
 }
 
@@ -52,11 +53,12 @@ impl Raising {
     ghost use Rattle.safe_table.specs.Raising.{found_for};
 
     /// Nothing is listed.
-    fn new(alloc: Global) -> Raising
+    pub(crate) fn new(alloc: Global) -> Raising
         ensures { result ≡ [] }
     {
         Raising {
             lists: HashMap::new(alloc),
+            crowded: HashSet::new(alloc),
             kept: 0,
         }
     }
@@ -80,13 +82,27 @@ impl Raising {
         requires list { list.now ≡ writes_at awaited.word words.now }
         ensures { OnOk result (KeepsRaising words.now self.new) }
     {
-        let are_many = words.of_word(awaited.word).len() >= MANY;
-        if !are_many || self.kept >= MOST_KEPT || self.of(awaited).is_some() {
+        let count = words.of_word(awaited.word).len();
+        if count < MANY || self.kept >= MOST_KEPT || self.is_known(awaited) {
             return Ok(());
         }
-        if let Some(raising) = raising_in(alloc, awaited, list.runs())? {
-            self.put(alloc, words, awaited, raising.as_slice())?;
+        match raising_in(alloc, awaited, list.runs())? {
+            Some(raising) => self.put(alloc, words, awaited, raising.as_slice()),
+            None => self.crowd(awaited),
         }
+    }
+
+    /// Whether it was looked for those that raise it.
+    fn is_known(&self, awaited: Awaited) -> bool {
+        self.lists.contains_key(&awaited) || self.crowded.contains(&awaited)
+    }
+
+    /// More than a few raise it.
+    fn crowd(&mut self, awaited: Awaited) -> Result<(), NoMemory>
+        ensures { self.new ≡ self.old }
+    {
+        self.kept = self.kept.saturating_add(1);
+        self.crowded.insert(awaited)?;
         Ok(())
     }
 
@@ -110,7 +126,7 @@ impl Raising {
     }
 }
 
-/// Those that raise what is awaited among the writes of these stretches, unless they are too many.
+/// Those that raise what is awaited among the writes of these stretches, if they are few.
 fn raising_in(
     alloc: Global,
     awaited: Awaited,
@@ -121,8 +137,7 @@ fn raising_in(
 {
     let mut raising = Vec::new(alloc);
     for run in runs {
-        run.put_raising(&mut raising, awaited)?;
-        if raising.len() >= TOO_MANY {
+        if !run.put_raising(&mut raising, awaited, FEW)? {
             return Ok(None);
         }
     }

@@ -1,4 +1,4 @@
-ghost use Rattle.std.specs.Prelude.{◌≡◌, ◌≤◌, [], ◌∷◌, ◌++◌, OnOk, if◌then◌else◌};
+ghost use Rattle.std.specs.Prelude.{◌≡◌, ◌≤◌, [], ◌∷◌, ◌++◌, OnOk, true, if◌then◌else◌};
 ghost use Rattle.std.specs.Prelude.{drop, length, map, reverse, take};
 ghost use Rattle.std.specs.List.{filter, find};
 ghost use Rattle.std.specs.Option.{option_copied};
@@ -81,21 +81,26 @@ impl Run {
         rest
     }
 
-    /// Those that bring it are put behind others.
+    /// Those that bring it are put behind others, as long as these are fewer than so many; whether
+    /// all were.
     pub(crate) fn put_raising(
         &self,
         found: &mut Vec<WordWrite>,
         awaited: Awaited,
-    ) -> Result<(), NoMemory>
-        ensures { OnOk result (found.new.items ≡
+        most: usize,
+    ) -> Result<bool, NoMemory>
+        ensures { IfOk result (λ all. all ≡ true → found.new.items ≡
             found.old.items ++ filter (raises_it awaited) self.now) }
     {
         let mut place = self.place_raising(awaited, 0);
         while let Some(write) = self.as_slice().get(place) {
+            if found.len() >= most {
+                return Ok(false);
+            }
             push_if(awaited.is_raised_by(write), found, *write)?;
             place = self.place_raising(awaited, place + 1);
         }
-        Ok(())
+        Ok(true)
     }
 
     /// The place of the first behind so many that brings what is waited for, or past all of them.

@@ -12,7 +12,7 @@ use std::alloc::Global;
 use std::marker::Model;
 
 /// The writes of each dword of a board, in the order of master and index; as stretches those of each
-/// dword that is polled; and apart those that raise what some polls wait for. No word of the program
+/// dword that is polled; and, where they were listed apart, those that raise what some polls wait for. No word of the program
 /// calls it.
 #[derive(Debug, Drop)]
 pub struct Writers {
@@ -49,12 +49,21 @@ impl Writers {
     {
         let words = Words::new(alloc, tree)?;
         let lists = lists_of(alloc, tree, &words)?;
-        let raising = raising_of(alloc, tree, &words, &lists)?;
         Ok(Writers {
             words,
             lists,
-            raising,
+            raising: Raising::new(alloc),
         })
+    }
+
+    /// The same, with those apart that raise what some polls wait for: it looks through the writes of
+    /// a dword once for each value and mask that is waited for there.
+    pub(crate) fn with_raising(alloc: Global, tree: &Tree) -> Result<Writers, NoMemory>
+        ensures { IfOk result (ListsWrites tree.now) }
+    {
+        let mut writers = Writers::new(alloc, tree)?;
+        writers.raising = raising_of(alloc, tree, &writers.words, &writers.lists)?;
+        Ok(writers)
     }
 
     /// Those of this dword, in the order of master and index. It takes one look-up.

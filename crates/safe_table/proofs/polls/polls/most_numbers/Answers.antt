@@ -1,6 +1,9 @@
 use Rattle.std.proofs.Common.{◌≡◌, ◌+◌, ◌<◌, length, get_or, sym, ap, subst, ◌∙◌, arith}
 use Rattle.board_model.specs.declared.board.Board.{Board}
 use Rattle.board_model.proofs.form_laws.Laws.{few_masters}
+use Rattle.safe_model.specs.Clocks.{greater}
+use Rattle.safe_table.specs.Rows.{raised_at}
+use Rattle.safe_table.specs.Looks.{known_to}
 use Rattle.safe_table.proofs.StartLemmas.{FilledTo}
 use Rattle.safe_table.proofs.KeptLemmas.{number_kept, most_next}
 use Rattle.safe_table.proofs.polls.polls.most_numbers.Goals as goal
@@ -18,4 +21,7 @@ loop-other-preserved c =
     let item : c.master-item.result ≡ get_or c.args.tree.now.masters c.loop-other.other c.master-item.result = rw all at c.master-item.is in
     subst (λ ns. FilledTo (number_kept c.args.tree.now c.args.table.now c.args.op c.args.told c.args.raisers.now) ns (c.loop-other.other + 1)) (sym c.in_ok-push.ensures.items)
     (most_next c.args.tree.now c.args.table.now c.args.op c.args.told c.args.raisers.now c.loop-other.numbers.items c.loop-other.other c.master-item.result c.count_if-most.result c.most_of.result
-    within item c.loop-other.invariant c.count_if-most.ensures c.most_of.ensures)
+    within item c.loop-other.invariant c.count_if-most.ensures
+    (c.most_of.ensures
+    ∙ ap (λ n. greater n (known_to c.args.table.now c.args.raisers.now c.count_if-most.result c.loop-other.other))
+    (c.raised-known.ensures ∙ ap (λ k. raised_at k c.args.op c.loop-other.other) (c.number_at.ensures ∙ c.numbers-before.ensures c.loop-other.other))))
