@@ -1,4 +1,3 @@
-pub mod ApartLemmas
 pub mod OrderedLemmas
 pub mod SaidLemmas
 pub mod Laws

@@ -1,3 +1,1 @@
-pub mod largest
-pub mod said
 pub mod writes

@@ -5,8 +5,8 @@ ghost use Rattle.pci_command.specs.declared.op_id.OpId.{OpId};
 ghost use Rattle.board_model.specs.declared.board.Board.{Board};
 ghost use Rattle.board_model.specs.Requests.{op_of};
 ghost use Rattle.safe_model.specs.Clocks.{Table, is_poll, IsConsistent};
-ghost use Rattle.law_safe.specs.largest.Tests.{most_known};
-ghost use Rattle.law_safe.specs.largest.Largest.{IsWithin};
+ghost use Rattle.safe_model.specs.largest.Tests.{most_known};
+ghost use Rattle.safe_model.specs.largest.Largest.{IsWithin};
 
 /// A table that counts no more operations than there are is consistent exactly where it says of
 /// each poll at most what the tests say may be known behind it.

@@ -4,7 +4,7 @@
 //! all this is said, have a greater one for each two (`tables`). Which tables are consistent is
 //! told by tests over the operations of the board (`largest`), and what the largest one says of
 //! each operation is so in every run (`said`). Each law is the contract of a function that does
-//! nothing, over the definitions of `safe_model` and of these two.
+//! nothing, over the definitions of `safe_model`.
 #![tactic(auto)]
 
 pub mod before;

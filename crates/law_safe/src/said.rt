@@ -15,9 +15,9 @@ ghost use Rattle.history_model.specs.Program.{ended, meets};
 ghost use Rattle.history_model.specs.Runs.{Run};
 ghost use Rattle.history_model.specs.Knowledge.{has_ended, given_value};
 ghost use Rattle.safe_model.specs.Clocks.{Table, Awaits};
-ghost use Rattle.law_safe.specs.largest.Tests.{is_reached};
-ghost use Rattle.law_safe.specs.largest.Largest.{IsLargest};
-ghost use Rattle.law_safe.specs.said.Said.{safe, vain, said_of};
+ghost use Rattle.safe_model.specs.largest.Tests.{is_reached};
+ghost use Rattle.safe_model.specs.largest.Largest.{IsLargest};
+ghost use Rattle.safe_model.specs.said.Said.{safe, vain, said_of};
 
 /// A read that is said to be safe with a value returns it in every run in which it ends.
 pub fn said_safe_returns()

@@ -1,1 +1,5 @@
 pub mod OpsLemmas
+pub mod WordLemmas
+pub mod tables
+pub mod largest
+pub mod said

@@ -12,9 +12,9 @@ use Rattle.board_model.specs.Requests.{op_of, tries_of}
 use Rattle.board_model.proofs.Laws.{op_there}
 use Rattle.history_model.specs.Knowledge.{words_on}
 use Rattle.safe_model.specs.Clocks.{Table, is_poll, at_place, greater, known_by, clock_of, IsConsistent}
-use Rattle.law_safe.specs.largest.Tests.{program_of, Wish, wish_in, wish_of, told_to, most_known}
-use Rattle.law_safe.specs.largest.Largest.{IsWithin}
-use Rattle.law_safe.proofs.largest.Laws.{stays_above, passes_largest}
+use Rattle.safe_model.specs.largest.Tests.{program_of, Wish, wish_in, wish_of, told_to, most_known}
+use Rattle.safe_model.specs.largest.Largest.{IsWithin}
+use Rattle.safe_model.proofs.largest.Laws.{stays_above, passes_largest}
 use Rattle.safe_table.specs.Rows.{number, ProgramRows, rows_of, table_of, lesser, everything, KnowsAll, Rises, Closes}
 use Rattle.safe_table.specs.Falls.{row_in, sum_all, LowersTo}
 use Rattle.safe_table.specs.Most.{IsMost}

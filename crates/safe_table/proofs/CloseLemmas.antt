@@ -6,9 +6,9 @@ use Rattle.pci_command.specs.declared.op_id.OpId.{OpId}
 use Rattle.board_model.specs.declared.board.Board.{Board}
 use Rattle.board_model.specs.Requests.{op_of}
 use Rattle.safe_model.specs.Clocks.{Clock, Table, is_poll, at_place, known_by, greater, raised, clock_of, clock_with}
-use Rattle.law_safe.specs.largest.Tests.{Wish, wish_of, is_told, raisers, least, program_of, known_by_all, told_to, most_known}
-use Rattle.law_safe.specs.largest.Largest.{IsWithin, IsLargest}
-use Rattle.law_safe.proofs.largest.Laws.{Rises, clock_rises, clocks_closed}
+use Rattle.safe_model.specs.largest.Tests.{Wish, wish_of, is_told, raisers, least, program_of, known_by_all, told_to, most_known}
+use Rattle.safe_model.specs.largest.Largest.{IsWithin, IsLargest}
+use Rattle.safe_model.proofs.largest.Laws.{Rises, clock_rises, clocks_closed}
 use Rattle.safe_table.specs.Rows.{ProgramRows, table_of, KeepsPolls}
 use Rattle.safe_table.specs.Looks.{clock_in, ClosedIn, IsOrdered}
 use Rattle.safe_table.specs.Bounds.{BoundsAll}

@@ -16,7 +16,7 @@ use Rattle.board_model.specs.Requests.{op_of, tries_of}
 use Rattle.board_model.specs.device.Registers.{enabled_bits, merge_of}
 use Rattle.history_model.specs.Knowledge.{words_on}
 use Rattle.safe_model.specs.Clocks.{at_place, greater}
-use Rattle.law_safe.specs.largest.Tests.{wish_in, wish_of, program_of}
+use Rattle.safe_model.specs.largest.Tests.{wish_in, wish_of, program_of}
 use Rattle.safe_table.specs.declared.writers.write.WordWrite.{WordWrite}
 use Rattle.safe_table.specs.Rows.{ProgramRows, ops_at}
 use Rattle.safe_table.specs.Looks.{clock_past, known_to, most_in}

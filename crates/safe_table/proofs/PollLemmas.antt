@@ -11,8 +11,8 @@ use Rattle.history_model.specs.Words.{opens_as}
 use Rattle.law_lanes.specs.order.Order.{is_posted_op}
 use Rattle.safe_model.specs.Raisers.{phases_to, is_met_by, is_whole, is_plain, brings_met}
 use Rattle.safe_model.specs.Clocks.{Table, greater, clock_of, clock_with}
-use Rattle.law_safe.specs.largest.Tests.{is_before, is_reached, lands_no_more, writes_of, writes_before, Wish, wish_of, raises, is_clean, is_firm, is_told, is_left_out, raisers, least, program_of, known_by_all, told_to, most_known}
-use Rattle.law_safe.proofs.largest.TestLemmas.{any_both}
+use Rattle.safe_model.specs.largest.Tests.{is_before, is_reached, lands_no_more, writes_of, writes_before, Wish, wish_of, raises, is_clean, is_firm, is_told, is_left_out, raisers, least, program_of, known_by_all, told_to, most_known}
+use Rattle.safe_model.proofs.largest.TestLemmas.{any_both}
 use Rattle.audit_clocks.specs.Tables.{dword}
 use Rattle.safe_table.specs.declared.polls.awaited.Awaited.{Awaited}
 use Rattle.safe_table.specs.declared.writers.write.WordWrite.{WordWrite}

@@ -6,11 +6,11 @@ use Rattle.pci_command.specs.declared.op_id.OpId.{OpId}
 use Rattle.board_model.specs.declared.board.Board.{Board}
 use Rattle.board_model.specs.Requests.{op_of}
 use Rattle.safe_model.specs.Clocks.{Table, is_poll, at_place, known_by, greater, clock_of}
-use Rattle.law_safe.specs.largest.Tests.{wish_of, told_to, most_known}
+use Rattle.safe_model.specs.largest.Tests.{wish_of, told_to, most_known}
 use Rattle.safe_table.specs.Rows.{number, ProgramRows, rows_of, table_of, known_at, known_in, everything, KeepsPolls, KnowsAll, Rises, RisesIn}
 use Rattle.safe_table.specs.Bounds.{BoundsAll}
-use Rattle.law_safe.specs.largest.Largest.{IsLargest}
-use Rattle.law_safe.proofs.largest.Laws.{largest_rises}
+use Rattle.safe_model.specs.largest.Largest.{IsLargest}
+use Rattle.safe_model.proofs.largest.Laws.{largest_rises}
 use Rattle.safe_table.proofs.KnownLemmas.{known_behind}
 
 -- To begin with.

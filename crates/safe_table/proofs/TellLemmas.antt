@@ -7,7 +7,7 @@ use Rattle.std.proofs.lemmas.Bool.Decides.{nat_tests}
 use Rattle.pci_command.specs.declared.op_id.OpId.{OpId}
 use Rattle.board_model.specs.declared.board.Board.{Board}
 use Rattle.safe_model.specs.Clocks.{Table, clock_of, greater}
-use Rattle.law_safe.specs.largest.Tests.{most_known, told_to, wish_of}
+use Rattle.safe_model.specs.largest.Tests.{most_known, told_to, wish_of}
 use Rattle.safe_table.specs.Rows.{number, ProgramRows, table_of, rows_of, known_in, lesser, raised_at, KeepsPolls}
 use Rattle.safe_table.specs.Falls.{row_in}
 use Rattle.safe_table.specs.declared.writers.write.WordWrite.{WordWrite}

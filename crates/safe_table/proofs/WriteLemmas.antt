@@ -26,8 +26,8 @@ use Rattle.history_model.specs.Knowledge.{is_write, words_named}
 use Rattle.law_lanes.specs.order.Order.{is_posted_op}
 use Rattle.safe_model.specs.Ops.{ops_from, ops_by}
 use Rattle.safe_model.specs.Raisers.{same_dword, phases_for, phases_in, phases_to}
-use Rattle.law_safe.specs.largest.Tests.{brings, writes_of, is_last}
-use Rattle.law_safe.proofs.said.ApartLemmas.{InRow, in_row}
+use Rattle.safe_model.specs.largest.Tests.{brings, writes_of, is_last}
+use Rattle.safe_model.proofs.said.ApartLemmas.{InRow, in_row}
 use Rattle.audit_clocks.specs.Tables.{list_in, same_word, found_in, TakesWord, PutsWord, dword}
 use Rattle.audit_clocks.proofs.TableLemmas.{same_word_true}
 use Rattle.safe_table.specs.declared.writers.write.WordWrite.{WordWrite}

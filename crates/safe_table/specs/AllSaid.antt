@@ -4,7 +4,7 @@ use Rattle.pci_command.specs.declared.op_id.OpId.{OpId}
 use Rattle.board_model.specs.declared.board.Board.{Board}
 use Rattle.safe_model.specs.Ops.{ops_by}
 use Rattle.safe_model.specs.Clocks.{Table}
-use Rattle.law_safe.specs.said.Said.{Said as Verdict, safe, unsafe, lost, vain, loose, said_of}
+use Rattle.safe_model.specs.said.Said.{Said as Verdict, safe, unsafe, lost, vain, loose, said_of}
 use Rattle.audit_clocks.specs.Tables.{dword}
 use Rattle.safe_table.specs.declared.said.verdict.Said.{Said}
 use Rattle.safe_table.specs.declared.said.verdict.Said.TheVariants.{Safe, Unsafe, Lost, Vain, Loose}

@@ -5,8 +5,8 @@ use Rattle.board_model.specs.declared.op.Op.{Op}
 use Rattle.board_model.specs.declared.board.Board.{Board}
 use Rattle.board_model.specs.Requests.{op_of}
 use Rattle.safe_model.specs.Clocks.{Table, is_poll, at_place, IsConsistent}
-use Rattle.law_safe.specs.largest.Tests.{most_known}
-use Rattle.law_safe.specs.largest.Largest.{IsWithin, IsLargest}
+use Rattle.safe_model.specs.largest.Tests.{most_known}
+use Rattle.safe_model.specs.largest.Largest.{IsWithin, IsLargest}
 use Rattle.safe_table.specs.Rows.{ProgramRows, table_of, is_tried_at, KeepsPolls, Rises, Closes}
 use Rattle.safe_table.specs.Falls.{sum_all, LowersTo}
 use Rattle.safe_table.specs.Most.{IsMost}

@@ -5,8 +5,8 @@ use Rattle.pci_command.specs.declared.op_id.OpId.{OpId}
 use Rattle.board_model.specs.declared.board.Board.{Board}
 use Rattle.board_model.specs.Ways.{Dword}
 use Rattle.safe_model.specs.Clocks.{Table}
-use Rattle.law_safe.specs.largest.Tests.{lands_no_more}
-use Rattle.law_safe.specs.said.Said.{put, in_order}
+use Rattle.safe_model.specs.largest.Tests.{lands_no_more}
+use Rattle.safe_model.specs.said.Said.{put, in_order}
 use Rattle.safe_table.specs.declared.writers.write.WordWrite.{WordWrite}
 use Rattle.safe_table.specs.Writes.{op_in, IsWordWrite}
 

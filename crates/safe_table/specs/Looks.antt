@@ -4,7 +4,7 @@ use Rattle.std.specs.List.{list_any}
 use Rattle.pci_command.specs.declared.op_id.OpId.{OpId}
 use Rattle.pci_command.specs.Same.{same_op}
 use Rattle.safe_model.specs.Clocks.{greater}
-use Rattle.law_safe.specs.largest.Tests.{least}
+use Rattle.safe_model.specs.largest.Tests.{least}
 use Rattle.safe_table.specs.declared.writers.write.WordWrite.{WordWrite}
 use Rattle.safe_table.specs.Rows.{ProgramRows, number, known_in, raised_at, RisesIn}
 

@@ -6,9 +6,9 @@ use Rattle.board_model.specs.declared.board.Board.{Board}
 use Rattle.board_model.specs.declared.word.Word.{Word}
 use Rattle.board_model.specs.Ways.{Dword}
 use Rattle.safe_model.specs.Clocks.{Table}
-use Rattle.law_safe.specs.largest.Tests.{is_before}
-use Rattle.law_safe.specs.largest.Largest.{IsLargest}
-use Rattle.law_safe.specs.said.Said.{Said as Verdict, safe, unsafe, members, is_open, in_order, left_by}
+use Rattle.safe_model.specs.largest.Tests.{is_before}
+use Rattle.safe_model.specs.largest.Largest.{IsLargest}
+use Rattle.safe_model.specs.said.Said.{Said as Verdict, safe, unsafe, members, is_open, in_order, left_by}
 use Rattle.audit_clocks.specs.Tables.{found_in, dword}
 use Rattle.safe_table.specs.Rows.{ProgramRows, table_of, KeepsPolls}
 use Rattle.safe_table.specs.declared.said.verdict.OpSaid.{OpSaid}

@@ -3,7 +3,7 @@ use Rattle.std.specs.Prelude.{◌≡◌, ℕ, ◌<◌, List, length}
 use Rattle.pci_command.specs.declared.op_id.OpId.{OpId}
 use Rattle.board_model.specs.declared.board.Board.{Board}
 use Rattle.safe_model.specs.Clocks.{Table}
-use Rattle.law_safe.specs.largest.Tests.{most_known}
+use Rattle.safe_model.specs.largest.Tests.{most_known}
 use Rattle.safe_table.specs.Rows.{number}
 
 -- these are what may be known behind a poll at most, of each master of the board

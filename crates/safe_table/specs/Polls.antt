@@ -7,7 +7,7 @@ use Rattle.board_model.specs.declared.word.Word.{Word}
 use Rattle.history_model.specs.Words.{opens_as}
 use Rattle.safe_model.specs.Raisers.{is_met_by, is_whole, brings_met}
 use Rattle.safe_model.specs.Clocks.{Table, at_place}
-use Rattle.law_safe.specs.largest.Tests.{Wish, wish_of, is_firm, raisers, is_reached, program_of}
+use Rattle.safe_model.specs.largest.Tests.{Wish, wish_of, is_firm, raisers, is_reached, program_of}
 use Rattle.audit_clocks.specs.Tables.{dword}
 use Rattle.safe_table.specs.declared.polls.awaited.Awaited.{Awaited}
 use Rattle.safe_table.specs.declared.writers.write.WordWrite.{WordWrite}

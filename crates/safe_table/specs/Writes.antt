@@ -10,7 +10,7 @@ use Rattle.board_model.specs.Ways.{Dword, dwords_from}
 use Rattle.history_model.specs.Knowledge.{is_write, words_named}
 use Rattle.law_lanes.specs.order.Order.{is_posted_op}
 use Rattle.safe_model.specs.Raisers.{same_dword, phases_in, phases_to}
-use Rattle.law_safe.specs.largest.Tests.{writes_of, is_last}
+use Rattle.safe_model.specs.largest.Tests.{writes_of, is_last}
 use Rattle.audit_clocks.specs.Tables.{list_in, found_in, dword}
 use Rattle.safe_table.specs.declared.writers.write.WordWrite.{WordWrite}
 

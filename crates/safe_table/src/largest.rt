@@ -1,5 +1,5 @@
 ghost use Rattle.std.specs.Prelude.{IfOk, OnOk};
-ghost use Rattle.law_safe.specs.largest.Largest.{IsLargest};
+ghost use Rattle.safe_model.specs.largest.Largest.{IsLargest};
 ghost use Rattle.safe_table.specs.Rows.{table_of, KeepsPolls, KnowsAll};
 ghost use Rattle.safe_table.specs.Bounds.{AreOf, BoundsAll, Largest};
 

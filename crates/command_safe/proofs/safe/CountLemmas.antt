@@ -16,7 +16,7 @@ use Rattle.board_model.specs.Valid.{IsValid}
 use Rattle.board_model.proofs.Laws.{WellFormed-parts, Master-parts, op_tries}
 use Rattle.safe_model.specs.Ops.{ops_from, ops_by}
 use Rattle.safe_model.specs.Clocks.{Table}
-use Rattle.law_safe.specs.said.Said.{Said, said_of}
+use Rattle.safe_model.specs.said.Said.{Said, said_of}
 use Rattle.safe_table.specs.AllSaid.{lines_of, said_among, all_said, line}
 use Rattle.safe_table.specs.declared.said.verdict.OpSaid.{OpSaid}
 

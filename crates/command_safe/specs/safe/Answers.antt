@@ -16,9 +16,9 @@ use Rattle.history_model.specs.Knowledge.{has_ended, given_value}
 use Rattle.law_untagged.specs.Untagged.{UntaggedRun}
 use Rattle.law_untagged.specs.ApartTest.{is_apart}
 use Rattle.safe_model.specs.Clocks.{Table, Awaits}
-use Rattle.law_safe.specs.largest.Tests.{is_reached}
-use Rattle.law_safe.specs.largest.Largest.{IsLargest}
-use Rattle.law_safe.specs.said.Said.{safe, vain, said_of}
+use Rattle.safe_model.specs.largest.Tests.{is_reached}
+use Rattle.safe_model.specs.largest.Largest.{IsLargest}
+use Rattle.safe_model.specs.said.Said.{safe, vain, said_of}
 use Rattle.program_status.specs.declared.status.Status.{Status}
 use Rattle.program_input.specs.Protocols.{ReadsProtocol}
 use Rattle.safe_table.specs.AllSaid.{all_said}

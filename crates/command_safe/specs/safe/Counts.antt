@@ -1,6 +1,6 @@
 -- safe: how much of what is said speaks of a fault of the protocol, and the status for it.
 use Rattle.std.specs.Prelude.{Bool, true, false, ◌==◌, ◌&&◌, if◌then◌else◌, List, count_by}
-use Rattle.law_safe.specs.said.Said.{Said, safe, unsafe, lost, vain, loose}
+use Rattle.safe_model.specs.said.Said.{Said, safe, unsafe, lost, vain, loose}
 use Rattle.program_status.specs.declared.status.Status.{Status}
 use Rattle.program_status.specs.declared.status.Status.TheVariants.{Done, NotSafe}
 use Rattle.safe_table.specs.AllSaid.{Line as OpVerdict}

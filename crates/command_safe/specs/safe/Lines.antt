@@ -10,7 +10,7 @@ use Rattle.board_printer.specs.Spaces.{space_word}
 use Rattle.trace_text.specs.Words.{master_name, target_name}
 use Rattle.law_untagged.specs.ApartTest.{is_apart}
 use Rattle.safe_model.specs.Clocks.{Table}
-use Rattle.law_safe.specs.said.Said.{Said, safe, unsafe, lost, vain, loose}
+use Rattle.safe_model.specs.said.Said.{Said, safe, unsafe, lost, vain, loose}
 use Rattle.untagged_apart.specs.Lines.{apart_line}
 use Rattle.safe_table.specs.AllSaid.{Line as OpVerdict, all_said}
 use Rattle.command_safe.specs.declared.safe.counts.Counts.{Counts}

@@ -1,6 +1,6 @@
 ghost use Rattle.std.specs.Prelude.{◌≡◌, ◌<◌, ◌^◌, length, map, IfOk, IfErr};
 ghost use Rattle.law_untagged.specs.ApartTest.{is_apart};
-ghost use Rattle.law_safe.specs.largest.Largest.{IsLargest};
+ghost use Rattle.safe_model.specs.largest.Largest.{IsLargest};
 ghost use Rattle.program_input.specs.Protocols.{RefusesProtocol};
 ghost use Rattle.safe_table.specs.Rows.{table_of, KeepsPolls};
 ghost use Rattle.safe_table.specs.AllSaid.{line};

@@ -1,12 +1,10 @@
 -- Of two writes of a word, one lands no more once the other does: so it is not the last to land there.
-use Rattle.std.proofs.Common.{◌≡◌, ◌≢◌, ℕ, suc, ◌<◌, Bool, true, false, ◌&&◌, ◌||◌, not, ◌==◌, eqb-true, cond, List, [], ◌∷◌, ◌++◌, is_some, Contains, refl, sym, ap, subst, ◌∙◌, arith}
+use Rattle.std.proofs.Common.{◌≡◌, ◌≢◌, suc, ◌<◌, Bool, true, false, ◌||◌, not, cond, List, [], ◌∷◌, ◌++◌, is_some, Contains, refl, sym, ap, subst, ◌∙◌, arith}
 use Rattle.std.specs.List.{list_any}
 use Rattle.pci_command.specs.declared.command.Command.TheVariants.{MemWrite}
-use Rattle.pci_command.specs.declared.command.Space.{Space}
-use Rattle.pci_command.specs.declared.command.Space.TheVariants.{Mem, Io, Cfg}
 use Rattle.pci_command.specs.declared.phases.Phase.{Phase}
 use Rattle.pci_command.specs.declared.op_id.OpId.{OpId}
-use Rattle.pci_command.specs.Same.{same_op, same_space, same_command}
+use Rattle.pci_command.specs.Same.{same_op, same_command}
 use Rattle.board_model.specs.declared.board.Board.{Board}
 use Rattle.board_model.specs.Requests.{op_of, command_of, reads}
 use Rattle.board_model.specs.Ways.{Dword}
@@ -29,26 +27,9 @@ use Rattle.law_safe.proofs.before.OrderLemmas.{below_own, Sound}
 use Rattle.law_safe.proofs.before.BeforeLemmas.{write_told}
 use Rattle.law_safe.proofs.before.EndedLemmas.{write_done}
 use Rattle.law_safe.proofs.before.ProgramLemmas.{program_last, ended_last}
+use Rattle.safe_model.proofs.WordLemmas.{same_dword_true}
 
 -- Words and data phases.
-
-same_space_true : (a b : Space) → same_space a b ≡ true → a ≡ b
-same_space_true Mem Mem is = refl
-same_space_true Mem Io is = cc
-same_space_true Mem Cfg is = cc
-same_space_true Io Mem is = cc
-same_space_true Io Io is = refl
-same_space_true Io Cfg is = cc
-same_space_true Cfg Mem is = cc
-same_space_true Cfg Io is = cc
-same_space_true Cfg Cfg is = refl
-
-pub same_dword_true : (a b : Dword) → same_dword a b ≡ true → a ≡ b
-same_dword_true a b is =
-    let built : ℕ → Space → ℕ → Dword = λ target space address. record { target = target; space = space; address = address } in
-    let first = and_parts (a.target == b.target && same_space a.space b.space) (a.address == b.address) is in
-    let second = and_parts (a.target == b.target) (same_space a.space b.space) first.0 in
-    ap (λ t. built t a.space a.address) (eqb-true a.target b.target second.0) ∙ ap (λ s. built b.target s a.address) (same_space_true a.space b.space second.1) ∙ ap (built b.target b.space) (eqb-true a.address b.address first.1)
 
 contains_word : (word : Dword) (words : List Dword) (phases : List Phase) → phases_for word words phases ≢ [] → Contains words word
 contains_word word [] phases some = absurd (some refl)

@@ -12,4 +12,5 @@ pub use Rattle.law_safe.proofs.before.WrittenLemmas.{Written, written}
 -- what a raised clock counts
 pub use Rattle.law_safe.proofs.before.OrderLemmas.{raised_below, below_raised, below_own}
 -- what brings data phases to a word names it
-pub use Rattle.law_safe.proofs.before.LastLemmas.{same_dword_true, names_word}
+pub use Rattle.safe_model.proofs.WordLemmas.{same_dword_true}
+pub use Rattle.law_safe.proofs.before.LastLemmas.{names_word}

@@ -34,7 +34,7 @@ use Rattle.law_fresh.proofs.Laws.{ends_turn, Front, front_front}
 use Rattle.law_delivered.proofs.left.Laws.{read_at, returned_held, read_word}
 use Rattle.safe_model.specs.Raisers.{is_met_by, Firm, Raises}
 use Rattle.safe_model.specs.Clocks.{Table, is_poll, at_place, known_by, greater, raised, clock_of, clock_with, LeftOut, OpensOut, Awaits, IsConsistent}
-use Rattle.law_safe.proofs.tables.TableLemmas.{greater_first, greater_second}
+use Rattle.safe_model.proofs.tables.TableLemmas.{greater_first, greater_second}
 use Rattle.law_safe.proofs.before.MetLemmas.{Raised}
 use Rattle.law_safe.proofs.before.HeldLemmas.{Held, presented, held_first, held_after}
 

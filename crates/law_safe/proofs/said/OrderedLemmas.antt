@@ -15,12 +15,12 @@ use Rattle.history_model.proofs.facts.RequestLemmas.{same_op_true, same_op_self}
 use Rattle.safe_model.specs.Raisers.{phases_to}
 use Rattle.safe_model.specs.Clocks.{Table, IsBefore, LandsNoMore}
 use Rattle.safe_model.specs.Safe.{IsMember, Settles, IsSettled}
-use Rattle.law_safe.specs.largest.Tests.{lands_no_more}
-use Rattle.law_safe.specs.largest.Largest.{IsLargest}
-use Rattle.law_safe.specs.said.Said.{is_settled, is_open, put, in_order, landings_of, all_landings}
-use Rattle.law_safe.proofs.largest.TestLemmas.{either_way, not_both, no_more_is}
-use Rattle.law_safe.proofs.largest.RiseLemmas.{no_more_through}
-use Rattle.law_safe.proofs.said.ApartLemmas.{Distinct, brings_one}
+use Rattle.safe_model.specs.largest.Tests.{lands_no_more}
+use Rattle.safe_model.specs.largest.Largest.{IsLargest}
+use Rattle.safe_model.specs.said.Said.{is_settled, is_open, put, in_order, landings_of, all_landings}
+use Rattle.safe_model.proofs.largest.TestLemmas.{either_way, not_both, no_more_is}
+use Rattle.safe_model.proofs.largest.RiseLemmas.{no_more_through}
+use Rattle.safe_model.proofs.said.ApartLemmas.{Distinct, brings_one}
 
 -- Lists.
 

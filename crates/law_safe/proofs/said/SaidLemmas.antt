@@ -33,15 +33,15 @@ use Rattle.safe_model.specs.Raisers.{Raises, phases_to, phases_in}
 use Rattle.safe_model.specs.Clocks.{Table, is_poll, clock_of, IsBefore, LeftOut, Awaits}
 use Rattle.safe_model.specs.Safe.{IsSafe}
 use Rattle.safe_model.specs.Vain.{IsVain}
-use Rattle.law_safe.specs.largest.Tests.{is_before, is_reached, brings, writes_of, Wish, wish_of, raises, is_firm, opens_out, is_told, is_left_out, raisers}
-use Rattle.law_safe.specs.largest.Largest.{IsLargest}
-use Rattle.law_safe.specs.said.Said.{Said, safe, vain, loose, members, members_before, is_beside, is_open, first_beside, in_order, all_landings, left_by, said_beside, said_of_read, said_lost, owner_of, said_of_write, said_of_poll, said_as, said_of}
+use Rattle.safe_model.specs.largest.Tests.{is_before, is_reached, brings, writes_of, Wish, wish_of, raises, is_firm, opens_out, is_told, is_left_out, raisers}
+use Rattle.safe_model.specs.largest.Largest.{IsLargest}
+use Rattle.safe_model.specs.said.Said.{Said, safe, vain, loose, members, members_before, is_beside, is_open, first_beside, in_order, all_landings, left_by, said_beside, said_of_read, said_lost, owner_of, said_of_write, said_of_poll, said_as, said_of}
 use Rattle.law_safe.proofs.safe.SafeLemmas.{safe_returns}
 use Rattle.law_safe.proofs.vain.VainLemmas.{never_met}
-use Rattle.law_safe.proofs.largest.TestLemmas.{either_way, not_both, any_of, any_both, some_write, brings_writes, brings_some, some_brings, before_is, left_is, opens_is, raises_brings, firm_is}
-use Rattle.law_safe.proofs.largest.ConsistentLemmas.{has_wish}
-use Rattle.law_safe.proofs.largest.RiseLemmas.{op_within, knows_all}
-use Rattle.law_safe.proofs.said.ApartLemmas.{Distinct, filter_each, filter_distinct, ops_distinct, InRow, in_row}
+use Rattle.safe_model.proofs.largest.TestLemmas.{either_way, not_both, any_of, any_both, some_write, brings_writes, brings_some, some_brings, before_is, left_is, opens_is, raises_brings, firm_is}
+use Rattle.safe_model.proofs.largest.ConsistentLemmas.{has_wish}
+use Rattle.safe_model.proofs.largest.RiseLemmas.{op_within, knows_all}
+use Rattle.safe_model.proofs.said.ApartLemmas.{Distinct, filter_each, filter_distinct, ops_distinct, InRow, in_row}
 use Rattle.law_safe.proofs.said.OrderedLemmas.{Earlier, Sorted, order_each, order_any, order_sorted, none_open, landings_members, landings_settled, landings_any}
 
 -- An operation that is not reached comes before itself.

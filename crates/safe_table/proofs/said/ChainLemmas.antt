@@ -11,10 +11,10 @@ use Rattle.board_model.specs.declared.board.Board.{Board}
 use Rattle.board_model.specs.Ways.{Dword}
 use Rattle.history_model.proofs.facts.RequestLemmas.{same_op_self}
 use Rattle.safe_model.specs.Clocks.{Table}
-use Rattle.law_safe.specs.largest.Tests.{is_before, lands_no_more}
-use Rattle.law_safe.specs.largest.Largest.{IsLargest}
-use Rattle.law_safe.specs.said.Said.{safe, is_settled, is_beside, is_open, first_beside, said_beside, put, in_order, left_by}
-use Rattle.law_safe.proofs.largest.Laws.{no_more_is, is_no_more, no_more_through}
+use Rattle.safe_model.specs.largest.Tests.{is_before, lands_no_more}
+use Rattle.safe_model.specs.largest.Largest.{IsLargest}
+use Rattle.safe_model.specs.said.Said.{safe, is_settled, is_beside, is_open, first_beside, said_beside, put, in_order, left_by}
+use Rattle.safe_model.proofs.largest.Laws.{no_more_is, is_no_more, no_more_through}
 use Rattle.safe_table.specs.Writes.{op_in}
 use Rattle.safe_table.specs.Landing.{is_chained}
 use Rattle.safe_table.specs.Members.{WordMembers, AreMembers, said_with}

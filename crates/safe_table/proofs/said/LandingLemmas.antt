@@ -15,7 +15,7 @@ use Rattle.board_model.specs.device.Registers.{merge_of}
 use Rattle.history_model.specs.Words.{Landing, mask_in, opens_as, merged}
 use Rattle.safe_model.specs.Raisers.{phases_to}
 use Rattle.safe_model.specs.Clocks.{Table}
-use Rattle.law_safe.specs.said.Said.{put, in_order, all_landings, left_by}
+use Rattle.safe_model.specs.said.Said.{put, in_order, all_landings, left_by}
 use Rattle.safe_table.specs.declared.writers.write.WordWrite.{WordWrite}
 use Rattle.safe_table.specs.Writes.{op_in, IsWordWrite}
 use Rattle.safe_table.specs.Landing.{put_all, PutsAll, Sorts, joined}

@@ -8,7 +8,7 @@ use Rattle.board_model.specs.declared.board.Board.{Board}
 use Rattle.board_model.specs.declared.word.Word.{Word}
 use Rattle.safe_model.specs.Ops.{ops_from, ops_by}
 use Rattle.safe_model.specs.Clocks.{Table}
-use Rattle.law_safe.specs.said.Said.{said_of}
+use Rattle.safe_model.specs.said.Said.{said_of}
 use Rattle.safe_table.specs.declared.said.verdict.OpSaid.{OpSaid}
 use Rattle.safe_table.specs.AllSaid.{Line, line, lines_of, said_among}
 use Rattle.safe_table.specs.Members.{WordMembers, KeepsMembers, Says}

@@ -10,8 +10,8 @@ use Rattle.board_model.specs.declared.board.Board.{Board}
 use Rattle.board_model.specs.declared.word.Word.{Word}
 use Rattle.board_model.specs.Ways.{Dword}
 use Rattle.safe_model.specs.Clocks.{Table}
-use Rattle.law_safe.specs.largest.Tests.{is_before, is_reached, writes_of}
-use Rattle.law_safe.specs.said.Said.{Said as Verdict, members, is_beside, is_open, first_beside, said_beside}
+use Rattle.safe_model.specs.largest.Tests.{is_before, is_reached, writes_of}
+use Rattle.safe_model.specs.said.Said.{Said as Verdict, members, is_beside, is_open, first_beside, said_beside}
 use Rattle.audit_clocks.specs.Tables.{same_word, found_in, PutsWord, dword}
 use Rattle.audit_clocks.proofs.TableLemmas.{same_word_true}
 use Rattle.safe_table.specs.declared.writers.write.WordWrite.{WordWrite}

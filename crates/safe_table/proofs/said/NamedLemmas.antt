@@ -10,7 +10,7 @@ use Rattle.board_model.specs.Valid.{IsValid}
 use Rattle.board_model.proofs.Laws.{op_phases, op_formed}
 use Rattle.history_model.specs.Knowledge.{words_named}
 use Rattle.safe_model.specs.Raisers.{phases_in}
-use Rattle.law_safe.specs.said.Said.{said_of_write}
+use Rattle.safe_model.specs.said.Said.{said_of_write}
 use Rattle.safe_table.specs.Writes.{words_from}
 
 -- an operation that is there names as many words as it has data phases, from the first one on

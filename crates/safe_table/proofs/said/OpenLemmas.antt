@@ -13,9 +13,9 @@ use Rattle.pci_command.specs.Same.{same_op}
 use Rattle.history_model.proofs.facts.RequestLemmas.{same_op_true}
 use Rattle.board_model.specs.declared.board.Board.{Board}
 use Rattle.safe_model.specs.Clocks.{Table}
-use Rattle.law_safe.specs.largest.Tests.{is_before, lands_no_more}
-use Rattle.law_safe.specs.largest.Largest.{IsLargest}
-use Rattle.law_safe.specs.said.Said.{is_settled, is_open}
+use Rattle.safe_model.specs.largest.Tests.{is_before, lands_no_more}
+use Rattle.safe_model.specs.largest.Largest.{IsLargest}
+use Rattle.safe_model.specs.said.Said.{is_settled, is_open}
 use Rattle.safe_table.specs.declared.writers.write.WordWrite.{WordWrite}
 use Rattle.safe_table.specs.Writes.{op_in}
 use Rattle.safe_table.specs.Landing.{is_chained, joined, AreChained}

@@ -12,10 +12,10 @@ use Rattle.pci_command.specs.declared.op_id.OpId.{OpId}
 use Rattle.board_model.specs.declared.board.Board.{Board}
 use Rattle.board_model.specs.Ways.{Dword}
 use Rattle.safe_model.specs.Clocks.{Table, clock_of, IsBefore, LandsNoMore, lands_once, stands_before, had_ended}
-use Rattle.law_safe.specs.largest.Tests.{is_before, lands_no_more}
-use Rattle.law_safe.specs.largest.Largest.{IsLargest}
-use Rattle.law_safe.specs.said.Said.{put, is_beside, left_by}
-use Rattle.law_safe.proofs.largest.Laws.{no_more_is, before_is, is_before_so, clock_rises, largest_rises, clocks_closed}
+use Rattle.safe_model.specs.largest.Tests.{is_before, lands_no_more}
+use Rattle.safe_model.specs.largest.Largest.{IsLargest}
+use Rattle.safe_model.specs.said.Said.{put, is_beside, left_by}
+use Rattle.safe_model.proofs.largest.Laws.{no_more_is, before_is, is_before_so, clock_rises, largest_rises, clocks_closed}
 use Rattle.safe_table.specs.declared.writers.write.WordWrite.{WordWrite}
 use Rattle.safe_table.specs.Writes.{op_in, IsWordWrite}
 use Rattle.safe_table.specs.Landing.{put_all, PutsAll, no_more_next, is_chained, joined, AreChained}

@@ -4,7 +4,7 @@ ghost use Rattle.board_tree.specs.Decodable.{IsDecodable};
 ghost use Rattle.board_model.specs.device.Registers.{enabled_bits};
 ghost use Rattle.history_model.specs.Words.{opens_as};
 ghost use Rattle.safe_model.specs.Raisers.{is_met_by, is_whole, is_plain, brings_met};
-ghost use Rattle.law_safe.specs.largest.Tests.{wish_of};
+ghost use Rattle.safe_model.specs.largest.Tests.{wish_of};
 ghost use Rattle.audit_clocks.specs.Tables.{dword};
 ghost use Rattle.safe_table.specs.Polls.{wish_for, raises_it, is_clean_write};
 

@@ -50,7 +50,7 @@ impl Model for Polls {
 
 impl Polls {
     ghost use Rattle.board_model.specs.declared.board.Board.{Board};
-    ghost use Rattle.law_safe.specs.largest.Tests.{wish_of, is_told};
+    ghost use Rattle.safe_model.specs.largest.Tests.{wish_of, is_told};
     ghost use Rattle.safe_table.specs.Most.{IsMost};
     ghost use Rattle.safe_table.specs.Polls.{is_raised, poll_at};
 

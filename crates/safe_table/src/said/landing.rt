@@ -1,5 +1,5 @@
 ghost use Rattle.std.specs.Prelude.{◌≡◌, map, true, IfOk};
-ghost use Rattle.law_safe.specs.largest.Largest.{IsLargest};
+ghost use Rattle.safe_model.specs.largest.Largest.{IsLargest};
 ghost use Rattle.safe_table.specs.Rows.{table_of, KeepsPolls};
 ghost use Rattle.safe_table.specs.Writes.{op_in};
 ghost use Rattle.safe_table.specs.Landing.{AreChained, joined, PutsAll, Sorts};

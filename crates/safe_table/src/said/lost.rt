@@ -1,6 +1,6 @@
 ghost use Rattle.std.specs.Prelude.{◌≡◌, slice_get};
 ghost use Rattle.std.specs.Option.{option_map};
-ghost use Rattle.law_safe.specs.said.Said.{said_lost, owner_of};
+ghost use Rattle.safe_model.specs.said.Said.{said_lost, owner_of};
 ghost use Rattle.board_tree.specs.Decodable.{IsDecodable};
 ghost use Rattle.safe_table.specs.AllSaid.{verdict};
 

@@ -1,6 +1,6 @@
 ghost use Rattle.std.specs.Prelude.{◌≡◌, IfOk};
 ghost use Rattle.std.specs.List.{filter};
-ghost use Rattle.law_safe.specs.largest.Tests.{is_reached};
+ghost use Rattle.safe_model.specs.largest.Tests.{is_reached};
 ghost use Rattle.audit_clocks.specs.Tables.{dword};
 ghost use Rattle.safe_table.specs.Rows.{table_of, KeepsPolls};
 ghost use Rattle.safe_table.specs.Members.{AreMembers, IsSeen};

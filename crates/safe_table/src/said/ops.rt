@@ -2,7 +2,7 @@ ghost use Rattle.std.specs.Prelude.{◌≡◌, IfOk, OnOk, Some};
 ghost use Rattle.std.specs.Option.{option_map};
 ghost use Rattle.board_model.specs.Requests.{op_of, read_phases};
 ghost use Rattle.history_model.specs.Knowledge.{words_named};
-ghost use Rattle.law_safe.specs.said.Said.{said_of, said_as, said_of_read, said_of_write};
+ghost use Rattle.safe_model.specs.said.Said.{said_of, said_as, said_of_read, said_of_write};
 ghost use Rattle.safe_table.specs.Rows.{table_of};
 ghost use Rattle.safe_table.specs.Writes.{words_from};
 ghost use Rattle.safe_table.specs.AllSaid.{verdict};

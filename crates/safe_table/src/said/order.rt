@@ -2,7 +2,7 @@ ghost use Rattle.std.specs.Prelude.{◌≡◌, ◌==◌, ◌&&◌, nat_lt};
 ghost use Rattle.board_model.specs.declared.board.Board.{Board};
 ghost use Rattle.law_lanes.specs.order.Order.{is_posted_op};
 ghost use Rattle.safe_model.specs.Clocks.{behind};
-ghost use Rattle.law_safe.specs.largest.Tests.{is_before, is_reached, lands_no_more};
+ghost use Rattle.safe_model.specs.largest.Tests.{is_before, is_reached, lands_no_more};
 ghost use Rattle.safe_table.specs.Rows.{table_of, KeepsPolls};
 
 use crate::known::ClockTable;

@@ -1,7 +1,7 @@
 ghost use Rattle.std.specs.Prelude.{◌≡◌, IfOk};
 ghost use Rattle.std.specs.Option.{option_map};
-ghost use Rattle.law_safe.specs.largest.Tests.{wish_of};
-ghost use Rattle.law_safe.specs.said.Said.{said_of_poll};
+ghost use Rattle.safe_model.specs.largest.Tests.{wish_of};
+ghost use Rattle.safe_model.specs.said.Said.{said_of_poll};
 ghost use Rattle.safe_table.specs.Rows.{table_of};
 ghost use Rattle.safe_table.specs.AllSaid.{verdict};
 ghost use Rattle.safe_table.specs.Members.{IsSeen};

@@ -1,8 +1,8 @@
 ghost use Rattle.std.specs.Prelude.{◌≡◌, ◌≤◌, true, length, map, get_or, IfOk, IfSome};
 ghost use Rattle.std.specs.List.{find, filter, prefix_len, AllByRecursion};
-ghost use Rattle.law_safe.specs.largest.Tests.{is_before};
-ghost use Rattle.law_safe.specs.said.Said.{safe, left_by, is_beside, is_open};
-ghost use Rattle.law_safe.specs.said.Said.{first_beside, said_beside};
+ghost use Rattle.safe_model.specs.largest.Tests.{is_before};
+ghost use Rattle.safe_model.specs.said.Said.{safe, left_by, is_beside, is_open};
+ghost use Rattle.safe_model.specs.said.Said.{first_beside, said_beside};
 ghost use Rattle.audit_clocks.specs.Tables.{dword};
 ghost use Rattle.safe_table.specs.Rows.{table_of, KeepsPolls};
 ghost use Rattle.safe_table.specs.Writes.{op_in, IsWordWrite};

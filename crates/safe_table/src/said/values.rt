@@ -1,7 +1,7 @@
 ghost use Rattle.std.specs.Prelude.{◌≡◌, map, IfOk};
 ghost use Rattle.std.specs.List.{AllByRecursion};
-ghost use Rattle.law_safe.specs.largest.Largest.{IsLargest};
-ghost use Rattle.law_safe.specs.said.Said.{in_order, left_by};
+ghost use Rattle.safe_model.specs.largest.Largest.{IsLargest};
+ghost use Rattle.safe_model.specs.said.Said.{in_order, left_by};
 ghost use Rattle.audit_clocks.specs.Tables.{dword};
 ghost use Rattle.safe_table.specs.Rows.{table_of, KeepsPolls};
 ghost use Rattle.safe_table.specs.Writes.{op_in, IsWordWrite};

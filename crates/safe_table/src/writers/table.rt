@@ -39,7 +39,7 @@ impl Writers {
     ghost use Rattle.std.specs.Prelude.{◌≡◌, IfOk, IfSome};
     ghost use Rattle.board_model.specs.declared.board.Board.{Board};
     ghost use Rattle.audit_clocks.specs.Tables.{dword};
-    ghost use Rattle.law_safe.specs.largest.Tests.{writes_of};
+    ghost use Rattle.safe_model.specs.largest.Tests.{writes_of};
     ghost use Rattle.safe_table.specs.Writes.{writes_at, AreWrites, ListsWrites};
     ghost use Rattle.safe_table.specs.Raising.{AreRaising};
 

@@ -30,7 +30,7 @@ impl Words {
     ghost use Rattle.std.specs.Prelude.{IfOk, OnOk, if◌then◌else◌, [], ◌∷◌};
     ghost use Rattle.board_model.specs.declared.board.Board.{Board};
     ghost use Rattle.audit_clocks.specs.Tables.{same_word, dword};
-    ghost use Rattle.law_safe.specs.largest.Tests.{writes_of};
+    ghost use Rattle.safe_model.specs.largest.Tests.{writes_of};
     ghost use Rattle.safe_table.specs.Writes.{writes_at, Adds, AreWrites, ListsWrites};
 
     /// Of the writes of the board. It looks up each dword that a write names.

@@ -1,4 +1,4 @@
-use Rattle.law_safe.proofs.largest.ConsistentLemmas.{consistent_passes, passes_consistent}
+use Rattle.safe_model.proofs.largest.ConsistentLemmas.{consistent_passes, passes_consistent}
 use Rattle.law_safe.proofs.largest.consistent_by_tests.Goals as goal
 
 pub returns : goal.returns

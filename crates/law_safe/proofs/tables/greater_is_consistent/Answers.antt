@@ -1,4 +1,4 @@
-use Rattle.law_safe.proofs.tables.TableLemmas.{greater_consistent}
+use Rattle.safe_model.proofs.tables.TableLemmas.{greater_consistent}
 use Rattle.law_safe.proofs.tables.greater_is_consistent.Goals as goal
 
 pub returns : goal.returns

@@ -2,7 +2,7 @@ use Rattle.std.proofs.Common.{◌≡◌, List, None, map, sym, ap, subst, ◌∙
 use Rattle.std.specs.List.{find, AllByRecursion}
 use Rattle.board_model.specs.declared.board.Board.{Board}
 use Rattle.safe_model.specs.Clocks.{Table}
-use Rattle.law_safe.specs.said.Said.{is_open, in_order}
+use Rattle.safe_model.specs.said.Said.{is_open, in_order}
 use Rattle.audit_clocks.specs.Tables.{dword}
 use Rattle.safe_table.specs.declared.writers.write.WordWrite.{WordWrite}
 use Rattle.safe_table.specs.Rows.{table_of}

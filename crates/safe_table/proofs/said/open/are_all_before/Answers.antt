@@ -1,6 +1,6 @@
 use Rattle.std.proofs.Common.{Bool}
 use Rattle.pci_command.specs.declared.op_id.OpId.{OpId}
-use Rattle.law_safe.specs.largest.Tests.{is_before}
+use Rattle.safe_model.specs.largest.Tests.{is_before}
 use Rattle.safe_table.specs.Rows.{table_of}
 use Rattle.safe_table.proofs.said.OpenLemmas.{kept_begin, kept_on, kept_over, chained_at}
 use Rattle.safe_table.proofs.said.open.are_all_before.Goals as goal

@@ -1,5 +1,5 @@
 use Rattle.std.proofs.Common.{drop}
-use Rattle.law_safe.specs.largest.Tests.{is_before}
+use Rattle.safe_model.specs.largest.Tests.{is_before}
 use Rattle.safe_table.specs.Rows.{table_of}
 use Rattle.safe_table.proofs.said.OpenLemmas.{KeptIf}
 use Rattle.safe_table.proofs.said.open.are_all_before.Given as goal

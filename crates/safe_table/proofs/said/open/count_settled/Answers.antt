@@ -2,7 +2,7 @@ use Rattle.std.proofs.Common.{rules, of_calls, Bool}
 use Rattle.std.proofs.lemmas.Fn.{always_returns_same}
 use Rattle.board_model.specs.declared.board.Board.{Board}
 use Rattle.safe_model.specs.Clocks.{Table}
-use Rattle.law_safe.specs.largest.Tests.{lands_no_more}
+use Rattle.safe_model.specs.largest.Tests.{lands_no_more}
 use Rattle.safe_table.specs.declared.writers.write.WordWrite.{WordWrite}
 use Rattle.safe_table.specs.Rows.{table_of}
 use Rattle.safe_table.proofs.said.OpenLemmas.{is_settled_parted}

@@ -1,6 +1,6 @@
 use Rattle.std.proofs.Common.{Bool, map, refl, sym, ◌∙◌}
 use Rattle.pci_command.specs.declared.op_id.OpId.{OpId}
-use Rattle.law_safe.specs.said.Said.{is_open}
+use Rattle.safe_model.specs.said.Said.{is_open}
 use Rattle.safe_table.specs.Rows.{table_of}
 use Rattle.safe_table.specs.Writes.{op_in}
 use Rattle.safe_table.specs.Landing.{joined}

@@ -1,7 +1,7 @@
 use Rattle.std.proofs.Common.{Bool, not, ◌&&◌, refl, sym, ◌∙◌}
 use Rattle.pci_command.specs.declared.op_id.OpId.{OpId}
 use Rattle.pci_command.specs.Same.{same_op}
-use Rattle.law_safe.specs.said.Said.{is_settled}
+use Rattle.safe_model.specs.said.Said.{is_settled}
 use Rattle.safe_table.specs.Rows.{table_of}
 use Rattle.safe_table.proofs.said.OpenLemmas.{none_yet, one_now, none_at_last, chained_at}
 use Rattle.safe_table.proofs.said.open.is_open.Goals as goal

@@ -1,5 +1,5 @@
 use Rattle.std.proofs.Common.{◌≡◌, drop, map}
-use Rattle.law_safe.specs.said.Said.{is_open}
+use Rattle.safe_model.specs.said.Said.{is_open}
 use Rattle.safe_table.specs.Rows.{table_of}
 use Rattle.safe_table.specs.Writes.{op_in}
 use Rattle.safe_table.specs.Landing.{joined}

@@ -3,7 +3,7 @@ use Rattle.std.proofs.lemmas.Fn.{always_returns_same}
 use Rattle.board_model.specs.declared.board.Board.{Board}
 use Rattle.pci_command.specs.declared.op_id.OpId.{OpId}
 use Rattle.safe_model.specs.Clocks.{Table}
-use Rattle.law_safe.specs.largest.Tests.{is_before}
+use Rattle.safe_model.specs.largest.Tests.{is_before}
 use Rattle.safe_table.specs.declared.writers.write.WordWrite.{WordWrite}
 use Rattle.safe_table.specs.Rows.{table_of}
 use Rattle.safe_table.specs.Looks.{before_in}

@@ -1,6 +1,6 @@
 use Rattle.std.proofs.Common.{Bool, refl, sym, ◌∙◌}
 use Rattle.pci_command.specs.declared.op_id.OpId.{OpId}
-use Rattle.law_safe.specs.said.Said.{is_beside}
+use Rattle.safe_model.specs.said.Said.{is_beside}
 use Rattle.safe_table.specs.Rows.{table_of}
 use Rattle.safe_table.proofs.said.RunLemmas.{found_among, none_among, none_at_all}
 use Rattle.safe_table.proofs.said.reads.first_beside.Goals as goal

@@ -2,8 +2,8 @@ use Rattle.std.proofs.Common.{◌≤◌, List, length, map, get_or, ap, subst, �
 use Rattle.std.specs.List.{prefix_len}
 use Rattle.board_model.specs.declared.board.Board.{Board}
 use Rattle.safe_model.specs.Clocks.{Table}
-use Rattle.law_safe.specs.largest.Tests.{is_before}
-use Rattle.law_safe.specs.said.Said.{safe}
+use Rattle.safe_model.specs.largest.Tests.{is_before}
+use Rattle.safe_model.specs.said.Said.{safe}
 use Rattle.audit_clocks.specs.Tables.{dword}
 use Rattle.safe_table.specs.declared.writers.write.WordWrite.{WordWrite}
 use Rattle.safe_table.specs.Rows.{table_of}

@@ -15,10 +15,10 @@ use Rattle.history_model.proofs.facts.RequestLemmas.{same_op_true, same_op_self}
 use Rattle.board_model.proofs.Laws.{op_there}
 use Rattle.safe_model.specs.Raisers.{Raises}
 use Rattle.safe_model.specs.Clocks.{Table, is_poll, at_place, greater, clock_of, clock_with, LeftOut, RaiserKnows, RaisersKnow, IsKnown, Awaits, IsConsistent}
-use Rattle.law_safe.specs.largest.Tests.{writes_of, Wish, wish_in, wish_of, raises, is_firm, opens_out, is_left_out, raisers, least, program_of, known_by_all, told_to, most_known}
-use Rattle.law_safe.specs.largest.Largest.{IsWithin, IsLargest}
-use Rattle.law_safe.proofs.tables.TableLemmas.{AtMost, greater_first, greater_second, greater_least, clock_more, with_more, left_more, opens_more}
-use Rattle.law_safe.proofs.largest.TestLemmas.{either_way, not_both, not_false, any_both, some_write, left_is, is_left, opens_is, is_opens, raises_brings, firm_is, is_firm_so}
+use Rattle.safe_model.specs.largest.Tests.{writes_of, Wish, wish_in, wish_of, raises, is_firm, opens_out, is_left_out, raisers, least, program_of, known_by_all, told_to, most_known}
+use Rattle.safe_model.specs.largest.Largest.{IsWithin, IsLargest}
+use Rattle.safe_model.proofs.tables.TableLemmas.{AtMost, greater_first, greater_second, greater_least, clock_more, with_more, left_more, opens_more}
+use Rattle.safe_model.proofs.largest.TestLemmas.{either_way, not_both, not_false, any_both, some_write, left_is, is_left, opens_is, is_opens, raises_brings, firm_is, is_firm_so}
 
 -- The least of numbers.
 

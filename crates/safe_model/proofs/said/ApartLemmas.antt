@@ -21,7 +21,7 @@ use Rattle.list_facts.proofs.EachLemmas.{Each-append, Each-weaker}
 use Rattle.history_model.proofs.facts.RequestLemmas.{same_op_true}
 use Rattle.safe_model.specs.Ops.{ops_from, ops_by}
 use Rattle.safe_model.specs.Raisers.{same_dword, phases_for, phases_in, phases_to}
-use Rattle.law_safe.proofs.largest.TestLemmas.{either_way}
+use Rattle.safe_model.proofs.largest.TestLemmas.{either_way}
 
 -- Lists with each operation once.
 

@@ -19,8 +19,8 @@ use Rattle.safe_model.specs.Ops.{ops_by}
 use Rattle.safe_model.proofs.OpsLemmas.{write_listed}
 use Rattle.safe_model.specs.Raisers.{same_dword, phases_for, phases_in, phases_to, is_met_by, is_whole, brings_met, is_plain, Raises, Firm}
 use Rattle.safe_model.specs.Clocks.{Table, clock_of, IsBefore, behind, LandsNoMore, lands_once, stands_before, had_ended, WritesBefore, LeftOut, OpensOut}
-use Rattle.law_safe.specs.largest.Tests.{is_before, lands_no_more, brings, writes_of, writes_before, Wish, raises, is_last, is_clean, is_firm, opens_out, is_left_out}
-use Rattle.law_safe.proofs.before.LastLemmas.{same_dword_true}
+use Rattle.safe_model.specs.largest.Tests.{is_before, lands_no_more, brings, writes_of, writes_before, Wish, raises, is_last, is_clean, is_firm, opens_out, is_left_out}
+use Rattle.safe_model.proofs.WordLemmas.{same_dword_true}
 
 -- Of lists and tests.
 

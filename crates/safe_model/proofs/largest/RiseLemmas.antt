@@ -10,10 +10,10 @@ use Rattle.board_model.specs.declared.board.Board.{Board}
 use Rattle.board_model.specs.Requests.{op_of}
 use Rattle.board_model.proofs.Laws.{op_there}
 use Rattle.safe_model.specs.Clocks.{Clock, Table, is_poll, at_place, known_by, greater, raised, clock_of, clock_with, IsBefore, LandsNoMore, lands_once, stands_before, had_ended, LeftOut, RaiserKnows, RaisersKnow, IsKnown, Awaits, IsConsistent, greater_of}
-use Rattle.law_safe.specs.largest.Tests.{program_of, wish_of, told_to, most_known}
-use Rattle.law_safe.specs.largest.Largest.{IsWithin, IsLargest}
-use Rattle.law_safe.proofs.tables.TableLemmas.{AtMost, greater_first, greater_second, greater_least, known_more, clock_more, left_more, opens_more, is_known_more}
-use Rattle.law_safe.proofs.largest.ConsistentLemmas.{first_try}
+use Rattle.safe_model.specs.largest.Tests.{program_of, wish_of, told_to, most_known}
+use Rattle.safe_model.specs.largest.Largest.{IsWithin, IsLargest}
+use Rattle.safe_model.proofs.tables.TableLemmas.{AtMost, greater_first, greater_second, greater_least, known_more, clock_more, left_more, opens_more, is_known_more}
+use Rattle.safe_model.proofs.largest.ConsistentLemmas.{first_try}
 
 -- Numbers of a raised clock.
 

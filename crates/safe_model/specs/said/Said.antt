@@ -16,7 +16,7 @@ use Rattle.history_model.specs.Words.{Landing, opens_as, merged}
 use Rattle.history_model.specs.Knowledge.{words_named}
 use Rattle.safe_model.specs.Raisers.{phases_to}
 use Rattle.safe_model.specs.Clocks.{Table}
-use Rattle.law_safe.specs.largest.Tests.{is_before, is_reached, lands_no_more, writes_of, Wish, wish_of, is_told, raisers}
+use Rattle.safe_model.specs.largest.Tests.{is_before, is_reached, lands_no_more, writes_of, Wish, wish_of, is_told, raisers}
 
 -- a verdict on an operation
 pub data Said : Type 0 where

@@ -4,7 +4,7 @@ use Rattle.pci_command.specs.declared.op_id.OpId.{OpId}
 use Rattle.board_model.specs.declared.board.Board.{Board}
 use Rattle.board_model.specs.Requests.{op_of}
 use Rattle.safe_model.specs.Clocks.{Table, is_poll, IsConsistent}
-use Rattle.law_safe.specs.largest.Tests.{program_of}
+use Rattle.safe_model.specs.largest.Tests.{program_of}
 
 -- no number is above that of the operations of the program that it is of
 abbrev pub IsWithin : Board → Table → Type 0
