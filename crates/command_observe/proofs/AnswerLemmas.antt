@@ -27,14 +27,14 @@ use Rattle.program_input.specs.Traces.{ReadsTree}
 use Rattle.program_input.specs.declared.trace.TreeTrace.{TreeTrace}
 use Rattle.trace_reader.specs.Traces.{trace_read}
 use Rattle.command_observe.specs.declared.reading.TreeLog.{TreeLog}
-use Rattle.command_observe.specs.declared.telling.RunTold.{RunTold}
+use Rattle.command_observe.specs.declared.telling.ActsOfLog.{ActsOfLog}
 use Rattle.command_observe.specs.declared.drafting.Untold.{Untold}
 use Rattle.command_observe.specs.declared.drafting.Untold.TheVariants as untolds
 use Rattle.observe_order.specs.declared.judging.ActsVerdict.{ActsVerdict}
 use Rattle.observe_order.specs.declared.judging.ActsVerdict.TheVariants.{IsRun, Refused}
 use Rattle.command_observe.specs.Logs.{log_refusal, log_reading_refusal, RefusesLog, IsLogText, ReadsLog, TellsFault}
 use Rattle.command_observe.specs.Answers.{RefusesObserve, AnswersObserve, AnswersActs, TellsRun, TellsActs}
-use Rattle.command_observe.specs.Judging.{untold_status, IsUntold, ending_of, IsRunOf, HasRun, IsJudged, HoldsActs}
+use Rattle.command_observe.specs.Judging.{untold_status, IsUntold, ending_of, AreActsOf, HasActs, RunsActs, IsJudged, HoldsActs}
 
 -- a fault of the text is told as it is read
 pub fault_refuses : (input : List ℕ) (fault : OrNoMemory LogFault) (status : Status) → Tells {A = Log} (Err fault) (log_read input) → TellsFault fault status → RefusesLog input status
@@ -119,34 +119,34 @@ pub untold_refuses : {A : Type 0} (input : List ℕ) (read : TreeLog) (found : R
 untold_refuses input read (Ok value) reads untold = tt
 untold_refuses input read (Err status) reads untold = of_log input status (record { log = read.log; reads = reads.reads; tree = reads.faultless }) untold
 
--- a run that is told of a log is of the input
-pub has_run : (input : List ℕ) (read : TreeLog) (found : Result RunTold Status) → ReadsLog input read → IfOk found (IsRunOf read.log) → IfOk found (HasRun input)
-has_run input read (Ok run) reads of_log = record { log = read.log; reads = reads.reads; of_log = of_log }
-has_run input read (Err status) reads of_log = tt
+-- acts that are told of a log are of the input
+pub has_acts : (input : List ℕ) (read : TreeLog) (found : Result ActsOfLog Status) → ReadsLog input read → IfOk found (AreActsOf read.log) → IfOk found (HasActs input)
+has_acts input read (Ok found) reads of_log = record { log = read.log; reads = reads.reads; faultless = reads.faultless; of_log = of_log }
+has_acts input read (Err status) reads of_log = tt
 
--- what is read as it tells it
-tells_run : (log : Log) (run : RunTold) (text : List ℕ) → IsRunOf log run → IsValid run.tree → trace_read text ≡ Ok (run.tree, run.events) → TellsRun log text
-tells_run log run text is valid read =
+-- a run of acts that a log tells of is one that it tells of
+tells_run : (log : Log) (found : ActsOfLog) (text : List ℕ) → AreActsOf log found → RunsActs found.tree found.acts text → TellsRun log text
+tells_run log found text of_log runs =
     record {
-      board = run.tree;
-      events = run.events;
-      read_back = read;
-      valid = valid;
-      run = is.still.run;
-      told = is.told;
-      still = is.still.landed;
+      board = found.tree;
+      events = runs.events;
+      read_back = runs.read_back;
+      valid = runs.valid;
+      run = runs.run;
+      told = subst (λ acts. IsToldOf log found.tree acts) (sym runs.same_acts) of_log.told;
+      still = runs.still;
     }
 
--- what is written of it answers it
-pub observes : {A : Type 0} (input : List ℕ) (run : RunTold) (written : Result A Status) (items : A → List ℕ) → HasRun input run → IsValid run.tree
-    → IfOk written (λ text. trace_read (items text) ≡ Ok (run.tree, run.events)) → IfOk written (λ text. AnswersObserve input (items text))
-observes input run (Ok text) items has valid read = record { log = has.log; reads = has.reads; writes = tells_run has.log run (items text) has.of_log valid read }
-observes input run (Err status) items has valid read = tt
+-- what is written of them answers the input
+pub observes : {A : Type 0} (input : List ℕ) (found : ActsOfLog) (written : Result A Status) (items : A → List ℕ) → HasActs input found
+    → IfOk written (λ text. RunsActs found.tree found.acts (items text)) → IfOk written (λ text. AnswersObserve input (items text))
+observes input found (Ok text) items has runs = record { log = has.log; reads = has.reads; writes = tells_run has.log found (items text) has.of_log runs }
+observes input found (Err status) items has runs = tt
 
--- and for want of memory nothing is
-pub observes_none : {A : Type 0} (input : List ℕ) (written : Result A Status) → IfErr written (λ status. status ≡ NoMemory) → IfErr written (RefusesObserve input)
-observes_none input (Ok text) is = tt
-observes_none input (Err status) is = subst (λ s. RefusesObserve input s) (sym is) tt
+-- and where nothing is, it is a log that is refused
+pub observes_none : {A : Type 0} (input : List ℕ) (found : ActsOfLog) (written : Result A Status) → HasActs input found → IfErr written IsUntold → IfErr written (RefusesObserve input)
+observes_none input found (Ok text) has untold = tt
+observes_none input found (Err status) has untold = of_log input status (record { log = has.log; reads = has.reads; tree = has.faultless }) untold
 
 pub acts_told : (input : List ℕ) (read : TreeLog) (found : Result Answered Status) → ReadsLog input read
     → IfOk found (λ answer. TellsActs read.log answer.text.items answer.ending) → IfOk found (λ answer. AnswersActs input answer.text.items answer.ending)

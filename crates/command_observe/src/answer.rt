@@ -2,12 +2,12 @@ ghost use Rattle.std.specs.Prelude.{◌≡◌, ◌<◌, ◌^◌, ℕ, length, If
 ghost use Rattle.board_model.specs.WellFormed.{is_well_formed};
 ghost use Rattle.command_observe.specs.Answers.{AnswersObserve, AnswersActs, RefusesObserve};
 ghost use Rattle.command_observe.specs.Answers.{TellsActs};
-ghost use Rattle.command_observe.specs.Judging.{HasRun, IsUntold, ending_of};
+ghost use Rattle.command_observe.specs.Judging.{HasActs, IsUntold, ending_of};
 
 use crate::drafting::line_at;
 use crate::holding::holds_acts;
 use crate::reading::{TreeLog, read_tree_log};
-use crate::telling::{RunTold, run_told};
+use crate::telling::{ActsOfLog, acts_told};
 use crate::writing::{Draft, draft_acts, text_of_run};
 use observe_order::ActsVerdict;
 use observe_told::Log;
@@ -21,23 +21,22 @@ pub fn answer_observe(alloc: Global, input: &[u8]) -> Result<Vec<u8>, Status>
     ensures ok { IfOk result (λ text. AnswersObserve input.now text.items) }
     ensures err { IfErr result (RefusesObserve input.now) }
 {
-    let found = run_of_input(alloc, input)?;
-    let text = text_of_run(alloc, &found);
-    drop(found);
-    text
+    let found = acts_of_input(alloc, input)?;
+    text_of_run(alloc, found)
 }
 
-/// The run that the log of these bytes tells of; the log is let go before its text is written.
+/// The acts that the log of these bytes tells of. The log is let go before their run is made, and
+/// they before its text is, so that a line takes few bytes at any time.
 #[tactic(auto, using(crate::proofs::AnswerLemmas::read_refuses))]
-fn run_of_input(alloc: Global, input: &[u8]) -> Result<RunTold, Status>
+fn acts_of_input(alloc: Global, input: &[u8]) -> Result<ActsOfLog, Status>
     requires { length input.now < 2 ^ 31 }
-    ensures ok { IfOk result (HasRun input.now) }
+    ensures ok { IfOk result (HasActs input.now) }
     ensures err { IfErr result (RefusesObserve input.now) }
 {
     let read = read_tree_log(alloc, input)?;
-    let run = run_told(alloc, &read);
+    let found = acts_told(alloc, &read);
     drop(read);
-    run
+    found
 }
 
 /// The trace of the acts that a log tells of, without arrivals: those of a run, or of one up to an

@@ -1,6 +1,7 @@
 //! `observe`: the run that a log tells of, or all acts of it, whether they are a run or not. How
-//! they are found is not trusted: a run is judged as it is made and held against the log, and what
-//! is printed of it is read as it; a text of acts is read again, judged, and held against the log.
+//! they are found is not trusted: acts are held against the log and then judged as all that they
+//! put in flight arrives, and what is printed of their run is read as it; a text of acts is read
+//! again, judged, and held against the log.
 #![tactic(auto)]
 
 mod answer;

@@ -4,7 +4,7 @@ use crate::reading::{TreeLog, read_tree_log};
 use board_tree::Tree;
 use observe_found::Times;
 use observe_order::Ordered;
-use observe_told::{ActsTold, Log, RefusedLog, Retold, Unfound};
+use observe_told::{ActsTold, LineActs, Log, RefusedLog, Retold, Unfound};
 use pci_command::{List, NoMemory};
 use program_status::Status;
 use std::alloc::Global;
@@ -77,13 +77,15 @@ fn with_acts(alloc: Global, log: Log, told: Told) -> Retelling {
 
 /// The acts up to the one that is refused, and those behind it: none where none is.
 fn acts_told(alloc: Global, ordered: Ordered) -> ActsTold {
-    let Ordered { lines, stopped, .. } = ordered;
+    let Ordered { acts, stopped } = ordered;
+    let LineActs { events, lines } = acts;
+    drop(events);
     match stopped {
         Some(told) => told,
         None => ActsTold {
-            taken: lines.as_slice().len(),
+            taken: lines.len(),
             acts: List::from_vec(Vec::new(alloc)),
-            lines,
+            lines: List::from_vec(lines),
             refused: None,
         },
     }

@@ -1,38 +1,38 @@
-//! The run that a log tells of, with what is said of it.
+//! The acts that a log tells of, with what is said of them.
 ghost use Rattle.std.specs.Prelude.{◌<◌, ◌^◌, length, string_bytes, IfOk, IfErr, IsTrue};
 ghost use Rattle.board_model.specs.WellFormed.{is_well_formed};
 ghost use Rattle.law_early.specs.Early.{acts_of};
 ghost use Rattle.observe_log.specs.Told.{Tells};
-ghost use Rattle.observe_order.specs.Going.{EndsLanded};
 ghost use Rattle.trace_roundtrip.specs.Comments.{AreComments};
-ghost use Rattle.command_observe.specs.Judging.{IsRunOf, IsUntold};
+ghost use Rattle.command_observe.specs.Judging.{AreActsOf, IsUntold};
 
-use crate::drafting::{Told, Untold, number_of, told_by, unheld};
+use crate::drafting::{Told, Untold, last_number, number_of, told_by, unheld};
 use crate::notes::comments;
 use crate::reading::TreeLog;
 use board_tree::Tree;
 use history_model::Event;
 use observe_found::Unseen;
 use observe_log::is_told;
-use observe_told::Log;
+use observe_told::{LineActs, Log};
 use pci_command::{List, NoMemory};
 use program_status::{LogRefusal, Status};
 use std::alloc::Global;
 use trace_roundtrip::are_comments;
 
-/// A run of the board of a tree, and what is said of it.
+/// Acts of the board of a tree, what is said of them, and the number of the last line of their log.
 #[derive(Drop)]
-pub(crate) struct RunTold {
+pub(crate) struct ActsOfLog {
     pub(crate) tree: Tree,
-    pub(crate) events: List<Event>,
+    pub(crate) acts: List<Event>,
     pub(crate) said: String,
+    pub(crate) last: u32,
 }
 
-/// The run that the log tells of.
+/// The acts that the log tells of, where none was refused as they were put in order.
 #[tactic(auto, using(crate::proofs::AnswerLemmas::is_untold))]
-pub(crate) fn run_told(alloc: Global, read: &TreeLog) -> Result<RunTold, Status>
+pub(crate) fn acts_told(alloc: Global, read: &TreeLog) -> Result<ActsOfLog, Status>
     requires { IsTrue (is_well_formed read.now.log.board) }
-    ensures ok { IfOk result (IsRunOf read.now.log) }
+    ensures ok { IfOk result (AreActsOf read.now.log) }
     ensures err { IfErr result IsUntold }
 {
     let told = told_by(alloc, read)?;
@@ -44,8 +44,12 @@ pub(crate) fn run_told(alloc: Global, read: &TreeLog) -> Result<RunTold, Status>
                 ordered,
             } = told;
             drop(unseen);
-            let events = ordered.events;
-            Ok(RunTold { tree, events, said })
+            Ok(ActsOfLog {
+                tree,
+                acts: List::from_vec(ordered.acts.events),
+                said,
+                last: last_number(&read.log),
+            })
         }
         Err(untold) => {
             drop(told);
@@ -54,11 +58,11 @@ pub(crate) fn run_told(alloc: Global, read: &TreeLog) -> Result<RunTold, Status>
     }
 }
 
-/// What is said of what was found, where it is a run that the log tells of.
+/// What is said of what was found, where none of its acts was refused and the log tells of them.
 fn said_of_run(alloc: Global, log: &Log, told: &Told) -> Result<String, Untold>
     requires { IsTrue (is_well_formed log.now.board) }
-    ensures few { IfOk result (λ _. length told.now.ordered.events < 2 ^ 32) }
-    ensures told { IfOk result (λ _. Tells log.now told.now.tree (acts_of told.now.ordered.events)) }
+    ensures few { IfOk result (λ _. length told.now.ordered.acts.events.items < 2 ^ 32) }
+    ensures told { IfOk result (λ _. Tells log.now told.now.tree (acts_of told.now.ordered.acts.events.items)) }
     ensures comments { IfOk result (λ said. AreComments (string_bytes said)) }
 {
     let ordered = &told.ordered;
@@ -68,11 +72,11 @@ fn said_of_run(alloc: Global, log: &Log, told: &Told) -> Result<String, Untold>
             refusal: LogRefusal::Cause(refused.why),
         });
     }
-    let events = ordered.events.as_slice();
+    let LineActs { events, lines } = &ordered.acts;
     if events.len() > 0xffff_ffff {
         return Err(unheld(log));
     }
-    if !is_told_by(alloc, log, &told.tree, events, ordered.lines.as_slice())? {
+    if !is_told_by(alloc, log, &told.tree, events.as_slice(), lines.as_slice())? {
         return Err(unheld(log));
     }
     said_of(alloc, log, &told.tree, &told.unseen)

@@ -1,25 +1,24 @@
 //! The texts that are written for a log, with what is said of it behind the first line of the
 //! board.
-ghost use Rattle.std.specs.Prelude.{◌≡◌, ◌<◌, ◌^◌, length, string_bytes, Ok, IfOk, IfErr, IsTrue};
+ghost use Rattle.std.specs.Prelude.{◌<◌, ◌^◌, length, string_bytes, IfOk, IfErr, IsTrue};
 ghost use Rattle.std.specs.List.{All};
-ghost use Rattle.board_model.specs.Valid.{IsValid};
+ghost use Rattle.judge_fill.specs.Filling.{Fills};
 ghost use Rattle.trace_text.specs.Events.{HasLine};
-ghost use Rattle.trace_reader.specs.Traces.{trace_read};
-ghost use Rattle.observe_order.specs.Going.{EndsLanded};
 ghost use Rattle.trace_roundtrip.specs.Comments.{AreComments};
-ghost use Rattle.program_status.specs.declared.status.Status.TheVariants.{NoMemory};
+ghost use Rattle.command_observe.specs.Judging.{RunsActs, IsUntold};
 
 use crate::drafting::{Told, Untold, told_by, unheld};
 use crate::reading::TreeLog;
-use crate::telling::{RunTold, said_of};
+use crate::telling::{ActsOfLog, said_of};
 use board_model::Board;
 use board_tree::Tree;
 use history_model::Event;
+use judge_fill::{Unfilled, fill};
 use observe_found::Unseen;
 use observe_order::Ordered;
-use observe_told::{ActsTold, Log};
+use observe_told::{ActsTold, LineActs, Log};
 use pci_command::List;
-use program_status::Status;
+use program_status::{LogRefusal, Status};
 use std::alloc::Global;
 use trace_roundtrip::{run_text, with_comments};
 use trace_text::{has_line, print_trace};
@@ -31,22 +30,56 @@ pub(crate) struct Draft {
     pub(crate) lines: List<u32>,
 }
 
-/// The trace text of the run, which is read as this run.
-pub(crate) fn text_of_run(alloc: Global, run: &RunTold) -> Result<Vec<u8>, Status>
-    requires run { EndsLanded run.now.tree run.now.events }
-    requires few { length run.now.events < 2 ^ 32 }
-    requires comments { AreComments (string_bytes run.now.said) }
-    ensures valid { IsValid run.now.tree }
-    ensures read { IfOk result
-        (λ text. trace_read text.items ≡ Ok (run.now.tree, run.now.events)) }
-    ensures err { IfErr result (λ status. status ≡ NoMemory) }
+/// The trace text of the run of these acts in which all arrives as early as can be.
+#[tactic(auto, using(crate::proofs::WritingLemmas::commented))]
+pub(crate) fn text_of_run(alloc: Global, found: ActsOfLog) -> Result<Vec<u8>, Status>
+    requires few { length found.acts < 2 ^ 32 }
+    requires comments { AreComments (string_bytes found.said) }
+    ensures ok { IfOk result (λ text. RunsActs found.tree found.acts text.items) }
+    ensures err { IfErr result IsUntold }
 {
-    let board = run.tree.board();
-    let Ok(text) = run_text(alloc, board, run.events.as_slice()) else {
-        return Err(Status::NoMemory);
-    };
-    let whole = with_comments(alloc, text.as_slice(), run.said.as_bytes())?;
+    let ActsOfLog {
+        tree,
+        acts,
+        said,
+        last,
+    } = found;
+    let printed = printed_run(alloc, &tree, acts, last);
+    drop(tree);
+    let text = printed?;
+    let whole = with_comments(alloc, text.as_slice(), said.as_bytes())?;
     Ok(whole)
+}
+
+/// The same without comments. The acts are let go before it is written.
+#[tactic(auto, using(crate::proofs::WritingLemmas::runs_acts))]
+fn printed_run(alloc: Global, tree: &Tree, acts: List<Event>, last: u32) -> Result<List<u8>, Status>
+    requires { length acts < 2 ^ 32 }
+    ensures ok { IfOk result (RunsActs tree.now acts) }
+    ensures err { IfErr result IsUntold }
+{
+    let whole = run_of(alloc, tree, acts, last)?;
+    match run_text(alloc, tree.board(), whole.as_slice()) {
+        Ok(text) => Ok(text),
+        Err(_) => Err(Status::NoMemory),
+    }
+}
+
+/// The run of these acts in which all arrives as early as can be. Where there is none, what was
+/// found is told as no run at the last line of the log.
+fn run_of(alloc: Global, tree: &Tree, acts: List<Event>, last: u32) -> Result<List<Event>, Status>
+    requires { length acts < 2 ^ 32 }
+    ensures ok { IfOk result (Fills tree.now acts) }
+    ensures err { IfErr result IsUntold }
+{
+    match fill(alloc, tree, acts.as_slice()) {
+        Ok(whole) => Ok(whole),
+        Err(Unfilled::NotRun { .. }) => Err(Status::NotTold {
+            line: last,
+            refusal: LogRefusal::NoAct,
+        }),
+        Err(Unfilled::NoMemory) => Err(Status::NoMemory),
+    }
 }
 
 /// The trace of the acts that the log tells of, of which nothing is claimed here.
@@ -66,22 +99,14 @@ pub(crate) fn draft_acts(alloc: Global, read: &TreeLog) -> Result<Draft, Untold>
 
 /// All acts, and the places of their lines in the log.
 fn all_acts(ordered: Ordered) -> (List<Event>, List<u32>) {
-    let Ordered {
-        events,
-        lines,
-        stopped,
-    } = ordered;
+    let Ordered { acts, stopped } = ordered;
     match stopped {
         Some(ActsTold { acts, lines, .. }) => (acts, lines),
-        None => (acts_among(events), lines),
+        None => {
+            let LineActs { events, lines } = acts;
+            (List::from_vec(events), List::from_vec(lines))
+        }
     }
-}
-
-/// The events that are no arrivals.
-fn acts_among(events: List<Event>) -> List<Event> {
-    let mut acts = events.into_vec();
-    acts.retain(|event| matches!(event, Event::Act { .. }));
-    List::from_vec(acts)
 }
 
 /// The trace text of these acts, if each of them has a line.

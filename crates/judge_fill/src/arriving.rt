@@ -12,7 +12,7 @@ use pci_command::NoMemory;
 
 /// The event by which the course went on last behind these events, and behind it all arrivals: all
 /// that is in flight arrives, and what that puts in flight, one by one in the fixed order.
-pub fn put(
+pub(crate) fn put(
     course: &mut Course,
     tree: &Tree,
     event: Event,

@@ -21,16 +21,16 @@ pub fn fill(alloc: Global, tree: &Tree, events: &[Event]) -> Result<List<Event>,
     ensures ok { IfOk result (Fills tree.now events.now) }
     ensures err { IfErr result (IsUnfilled tree.now events.now) }
 {
-    let mut whole = room_for(alloc, events.len())?;
+    let mut whole = room_for(alloc, tree)?;
     fill_into(alloc, tree, events, &mut whole)?;
     Ok(List::from_vec(whole))
 }
 
-/// No event, and room for so many: of a run there are mostly as many as were read.
-fn room_for(alloc: Global, count: usize) -> Result<Vec<Event>, NoMemory>
+/// No event, and room for as many as a run of the board can have.
+fn room_for(alloc: Global, tree: &Tree) -> Result<Vec<Event>, NoMemory>
     ensures { IfOk result (λ whole. whole.items ≡ []) }
 {
-    Ok(Vec::with_capacity(alloc, count)?)
+    Ok(Vec::with_capacity(alloc, tree.bound() as usize)?)
 }
 
 fn fill_into(

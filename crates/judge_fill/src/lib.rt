@@ -7,6 +7,5 @@ mod arriving;
 mod filling;
 mod unfilled;
 
-pub use arriving::put;
 pub use filling::fill;
 pub use unfilled::Unfilled;

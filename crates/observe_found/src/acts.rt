@@ -6,7 +6,7 @@ use crate::programs::{Draft, Programs};
 use crate::streams::Streams;
 use board_model::{Lane, Place};
 use history_model::Step;
-use observe_told::{Ending, Seen, SeenAct, Unfound, Who};
+use observe_told::{Ending, LineActs, Seen, SeenAct, Unfound, Who};
 use pci_command::{NoMemory, OpId};
 
 /// What the acts are told by: errands, streams and programs of a log.
@@ -48,13 +48,13 @@ impl<'a> Told<'a> {
 
 impl Told<'_> {
     /// Lists the acts of all lines, bus by bus, and there in the order of the lines.
-    pub(crate) fn list_acts(&self, acts: &mut Vec<SeenAct>) -> Result<(), NoMemory> {
+    pub(crate) fn list_acts(&self, acts: &mut LineActs) -> Result<(), NoMemory> {
         let latched = self.latched()?;
         acts.reserve(self.ground.lines.len())?;
         self.list(latched.as_slice(), acts)
     }
 
-    fn list(&self, latched: &[bool], acts: &mut Vec<SeenAct>) -> Result<(), NoMemory> {
+    fn list(&self, latched: &[bool], acts: &mut LineActs) -> Result<(), NoMemory> {
         for bus in 0..=255u8 {
             for line in self.ground.on_bus(bus) {
                 let is_latched = latched.get(*line as usize).copied().unwrap_or(false);
@@ -77,7 +77,7 @@ impl Told<'_> {
         Ok(latched)
     }
 
-    fn act(&self, line: u32, is_latched: bool, acts: &mut Vec<SeenAct>) -> Result<(), NoMemory> {
+    fn act(&self, line: u32, is_latched: bool, acts: &mut LineActs) -> Result<(), NoMemory> {
         let Some(seen) = self.ground.seen(line) else {
             return Ok(());
         };
@@ -87,7 +87,7 @@ impl Told<'_> {
                     return Ok(());
                 };
                 if is_latched {
-                    self.push(line, op, Step::Latch, acts)?;
+                    self.push(line, seen, (op, Step::Latch), acts)?;
                 }
                 self.end(line, seen, op, acts)
             }
@@ -98,67 +98,61 @@ impl Told<'_> {
     fn push(
         &self,
         line: u32,
-        op: OpId,
-        step: Step,
-        acts: &mut Vec<SeenAct>,
+        seen: &Seen,
+        act: (OpId, Step),
+        acts: &mut LineActs,
     ) -> Result<(), NoMemory> {
+        let (op, step) = act;
         let place = match step {
             Step::MasterAbort => Place::Nobody,
             _ => self.ground.claimant(line),
         };
-        acts.push(SeenAct {
-            line,
-            op,
-            step,
-            place,
-        })?;
-        Ok(())
+        acts.push(
+            seen,
+            SeenAct {
+                line,
+                op,
+                step,
+                place,
+            },
+        )
     }
 
     /// How a delayed request ended.
-    fn end(
-        &self,
-        line: u32,
-        seen: &Seen,
-        op: OpId,
-        acts: &mut Vec<SeenAct>,
-    ) -> Result<(), NoMemory> {
+    fn end(&self, line: u32, seen: &Seen, op: OpId, acts: &mut LineActs) -> Result<(), NoMemory> {
         let is_of_lane = matches!(self.ground.claimant(line), Place::Lane(_));
         match seen.ending {
             Ending::Retry => Ok(()),
-            Ending::Nobody => self.push(line, op, Step::MasterAbort, acts),
-            _ if is_of_lane => self.push(line, op, Step::Take(outcome(self.ground, seen)), acts),
+            Ending::Nobody => self.push(line, seen, (op, Step::MasterAbort), acts),
+            _ if is_of_lane => {
+                let step = Step::Take(outcome(self.ground, seen));
+                self.push(line, seen, (op, step), acts)
+            }
             _ if seen.command.is_read() => self.reads(line, seen, op, acts),
-            Ending::Done => self.push(line, op, Step::Land, acts),
-            Ending::TargetAbort => self.push(line, op, Step::TargetAbort, acts),
+            Ending::Done => self.push(line, seen, (op, Step::Land), acts),
+            Ending::TargetAbort => self.push(line, seen, (op, Step::TargetAbort), acts),
         }
     }
 
     /// A read that no lane claims: of a master an operation for each data phase, and one for the
     /// abort behind them; of a lane the first.
-    fn reads(
-        &self,
-        line: u32,
-        seen: &Seen,
-        op: OpId,
-        acts: &mut Vec<SeenAct>,
-    ) -> Result<(), NoMemory> {
+    fn reads(&self, line: u32, seen: &Seen, op: OpId, acts: &mut LineActs) -> Result<(), NoMemory> {
         let is_of_master = matches!(seen.who, Who::Master(_));
         let mut op = op;
         for (count, phase) in self.ground.moved(seen).iter().enumerate() {
             if count == 0 || is_of_master {
-                self.push(line, op, Step::Read(phase.value), acts)?;
+                self.push(line, seen, (op, Step::Read(phase.value)), acts)?;
                 op.index = op.index.saturating_add(1);
             }
         }
         let has_read = !self.ground.moved(seen).is_empty();
         if seen.ending == Ending::TargetAbort && (is_of_master || !has_read) {
-            self.push(line, op, Step::TargetAbort, acts)?;
+            self.push(line, seen, (op, Step::TargetAbort), acts)?;
         }
         Ok(())
     }
 
-    fn posted(&self, line: u32, seen: &Seen, acts: &mut Vec<SeenAct>) -> Result<(), NoMemory> {
+    fn posted(&self, line: u32, seen: &Seen, acts: &mut LineActs) -> Result<(), NoMemory> {
         let step = match self.ground.claimant(line) {
             Place::Lane(_) => Step::Accept,
             Place::Target(_) | Place::Header(_) | Place::Nobody => Step::Land,
@@ -169,13 +163,13 @@ impl Told<'_> {
             Ending::Done | Ending::TargetAbort => Step::TargetAbort,
         };
         let (first, end) = self.ground.span(line);
-        self.push_ops(line, (first, end), step, acts)?;
+        self.push_ops((line, seen), (first, end), step, acts)?;
         if let Some(lost) = self.streams.lost.get(&line).copied() {
             let end = lost.first.saturating_add(lost.count);
-            self.push_ops(line, (lost.first, end), rest, acts)?;
+            self.push_ops((line, seen), (lost.first, end), rest, acts)?;
         }
         match self.programs.alone.get(&line).copied() {
-            Some(op) => self.push(line, op, rest, acts),
+            Some(op) => self.push(line, seen, (op, rest), acts),
             None => Ok(()),
         }
     }
@@ -183,10 +177,10 @@ impl Told<'_> {
     /// One act for each operation of these data phases.
     fn push_ops(
         &self,
-        line: u32,
+        of: (u32, &Seen),
         span: (u32, u32),
         step: Step,
-        acts: &mut Vec<SeenAct>,
+        acts: &mut LineActs,
     ) -> Result<(), NoMemory> {
         let mut before = None;
         for phase in span.0..span.1 {
@@ -194,7 +188,7 @@ impl Told<'_> {
             if op != before
                 && let Some(op) = op
             {
-                self.push(line, op, step, acts)?;
+                self.push(of.0, of.1, (op, step), acts)?;
             }
             before = op;
         }

@@ -6,7 +6,7 @@ use crate::ground::{Ground, Times, number};
 use crate::programs::Draft;
 use board_model::{Board, Bridge, Lane, Master, Place, Planned, Target};
 use board_tree::Tree;
-use observe_told::{Ending, Seen, SeenAct, Unfound, Who};
+use observe_told::{Ending, LineActs, Seen, Unfound, Who};
 use pci_command::{List, NoMemory, OpId, Phase};
 use std::alloc::Global;
 
@@ -61,7 +61,7 @@ pub struct Unseen {
 #[derive(Debug, Drop)]
 pub struct LogFound {
     pub board: Board,
-    pub acts: List<SeenAct>,
+    pub acts: LineActs,
     pub unseen: Unseen,
 }
 
@@ -72,7 +72,7 @@ struct Sought {
     bridges: Vec<Bridge>,
     targets: Vec<Target>,
     discards: Vec<Planned>,
-    acts: Vec<SeenAct>,
+    acts: LineActs,
     notes: Vec<Note>,
 }
 
@@ -106,7 +106,7 @@ impl Sought {
             bridges: Vec::new(alloc),
             targets: Vec::new(alloc),
             discards: Vec::new(alloc),
-            acts: Vec::new(alloc),
+            acts: LineActs::new(alloc),
             notes: Vec::new(alloc),
         }
     }
@@ -138,7 +138,7 @@ impl Sought {
             acts,
             notes,
         } = self;
-        let counts = counts_of(ground, acts.as_slice());
+        let counts = counts_of(ground, acts.lines.as_slice());
         LogFound {
             board: Board {
                 bridges: List::from_vec(bridges),
@@ -147,7 +147,7 @@ impl Sought {
                 discards: List::from_vec(discards),
                 drops: List::from_vec(Vec::new(ground.alloc)),
             },
-            acts: List::from_vec(acts),
+            acts,
             unseen: Unseen {
                 notes: List::from_vec(notes),
                 counts,
@@ -197,10 +197,11 @@ fn not_looked_at(ground: &Ground, line: u32) -> u32 {
     }
 }
 
-/// A Retry with an effect has one act, the latch.
-fn counts_of(ground: &Ground, acts: &[SeenAct]) -> Counts {
+/// Counts what acts there are, by the places of their lines. A Retry with an effect has one, the
+/// latch.
+fn counts_of(ground: &Ground, acts: &[u32]) -> Counts {
     let retries = ground.lines.iter().filter(|seen| is_retry(seen)).count();
-    let latches = acts.iter().filter(|act| is_latch(ground, act)).count();
+    let latches = acts.iter().filter(|line| is_latch(ground, **line)).count();
     Counts {
         lines: number(ground.lines.len()),
         acts: number(acts.len()),
@@ -212,7 +213,7 @@ fn is_retry(seen: &Seen) -> bool {
     seen.ending == Ending::Retry
 }
 
-/// Whether it is the act of a line that ended with Retry.
-fn is_latch(ground: &Ground, act: &SeenAct) -> bool {
-    ground.seen(act.line).is_some_and(is_retry)
+/// Whether an act of this line is of one that ended with Retry.
+fn is_latch(ground: &Ground, line: u32) -> bool {
+    ground.seen(line).is_some_and(is_retry)
 }

@@ -135,8 +135,8 @@ impl<'a> Ground<'a> {
 
     /// The data phases of the line, those that were only offered too.
     fn phases_of(&self, seen: &Seen) -> &[Phase] {
-        let end = seen.first.saturating_add(seen.count);
-        match self.phases.get(seen.first..end) {
+        let (first, end) = span_of(seen);
+        match self.phases.get(first as usize..end as usize) {
             Some(phases) => phases,
             None => &[],
         }
@@ -151,10 +151,7 @@ impl<'a> Ground<'a> {
     /// the last.
     pub(crate) fn span(&self, line: u32) -> (u32, u32) {
         match self.seen(line) {
-            Some(seen) if is_moved(seen) => {
-                let end = seen.first.saturating_add(seen.count);
-                (number(seen.first), number(end))
-            }
+            Some(seen) if is_moved(seen) => span_of(seen),
             _ => (0, 0),
         }
     }
@@ -167,7 +164,7 @@ impl<'a> Ground<'a> {
     /// The number of a data phase on its line.
     pub(crate) fn number_in_line(&self, phase: u32) -> u32 {
         match self.seen(self.line_of(phase)) {
-            Some(seen) => phase.saturating_sub(number(seen.first)),
+            Some(seen) => phase.saturating_sub(seen.first),
             None => 0,
         }
     }
@@ -323,6 +320,11 @@ impl<'a> Ground<'a> {
     }
 }
 
+/// The first data phase of the line, and the one behind its last.
+fn span_of(seen: &Seen) -> (u32, u32) {
+    (seen.first, seen.first.saturating_add(u32::from(seen.count)))
+}
+
 /// Whether the data phases of the line were transferred, and not only offered.
 fn is_moved(seen: &Seen) -> bool {
     match seen.ending {
@@ -355,8 +357,11 @@ fn claimants(alloc: Global, board: &Board, lines: &[Seen]) -> Result<Vec<Place>,
 fn lines_of_phases(alloc: Global, lines: &[Seen], count: usize) -> Result<Vec<u32>, NoMemory> {
     let mut of_phases = vec![in alloc; 0u32; count]?;
     for (line, seen) in lines.iter().enumerate() {
-        let end = seen.first.saturating_add(seen.count);
-        if let Some(slots) = of_phases.as_mut_slice().get_mut(seen.first..end) {
+        let (first, end) = span_of(seen);
+        if let Some(slots) = of_phases
+            .as_mut_slice()
+            .get_mut(first as usize..end as usize)
+        {
             for slot in slots.iter_mut() {
                 *slot = number(line);
             }

@@ -1,5 +1,6 @@
 -- When the last line of a bus ended, behind one line more.
-use Rattle.std.proofs.Common.{◌≡◌, ℕ, ◌<◌, true, false, cond, eqb, List, [], ◌∷◌, ◌++◌, length, get_or, inl, inr, refl, sym, ◌∙◌, arith}
+use Rattle.std.proofs.Common.{◌≡◌, ℕ, ◌<◌, true, false, cond, eqb, List, [], ◌∷◌, ◌++◌, length, get_or, inl, inr, Result, Ok, Err, refl, sym, ◌∙◌, arith}
+use Rattle.std.specs.Prelude.{OnOk}
 use Rattle.std.proofs.Math.ListN.{set}
 use Rattle.std.proofs.lemmas.Bool.{cases_eq}
 use Rattle.std.proofs.lemmas.Bool.Decides.{nat_tests}
@@ -29,3 +30,8 @@ ends_more ends lines seen inside known = record {
             rw (more, is) (put ∙ old)
       ];
 }
+
+-- what holds holds where something was done
+pub on_ok : {A E : Type 0} (P : Type 0) (done : Result A E) → P → OnOk done P
+on_ok P (Ok value) holds = holds
+on_ok P (Err error) holds = tt

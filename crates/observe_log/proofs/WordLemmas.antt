@@ -1,5 +1,5 @@
 -- How many words are left behind the first five of a line.
-use Rattle.std.proofs.Common.{◌≡◌, ℕ, ◌%◌, ◌≤◌, Bool, true, false, cond, eqb, leb, ◌&&◌, List, [], ◌∷◌, length, Result, Ok, Err, arith, refl, ap}
+use Rattle.std.proofs.Common.{◌≡◌, ℕ, ◌+◌, ◌%◌, ◌≤◌, Bool, true, false, cond, eqb, leb, ◌&&◌, List, [], ◌∷◌, length, Result, Ok, Err, arith, refl, ap}
 use Rattle.pci_command.specs.Command.{space_of}
 use Rattle.pci_command.specs.declared.command.Space.{Space}
 use Rattle.pci_command.specs.declared.command.Space.TheVariants.{Mem, Io, Cfg}
@@ -56,20 +56,42 @@ shrinks_on {A} {B} reader next first later = record {
 shrinks_give : {A : Type 0} (value : A) → Shrinks (give value)
 shrinks_give value = record { short = λ words other rest read. same_rest (value, words) other rest words (omega arith) read }
 
-shrinks_word : {A : Type 0} (place : ℕ) (kind : List ℕ → Result A LogLineFault) → Shrinks (one_word place kind)
-shrinks_word {A} place kind = record {
-  short = λ words value rest read.
-      let W : List (List ℕ) → Type 0 = λ ws. one_word place kind ws ≡ so value rest → length rest ≤ length ws in
+-- a reader that takes a word
+record Takes {A : Type 0} (reader : Reader A) : Type 0 where
+  less : (words : List (List ℕ)) (value : A) (rest : List (List ℕ)) → reader words ≡ so value rest → length rest + 1 ≤ length words
+
+takes_on : {A B : Type 0} (reader : Reader A) (next : A → Reader B) → Takes reader → ((a : A) → Shrinks (next a)) → Takes (reader >>= next)
+takes_on {A} {B} reader next first later = record {
+  less = λ words value rest read.
+      let P : Result (A × List (List ℕ)) AtWord → Type 0 = λ r. reader words ≡ r → read_on r next ≡ so value rest → length rest + 1 ≤ length words in
+      (elim (reader words) as P [
+        | Ok got ↦ λ is told.
+            let one = first.less words got.0 got.1 is in
+            let two = (later got.0).short got.1 value rest told in
+            omega (arith, one, two)
+        | Err fault ↦ λ is told. absurd cc
+      ]) refl read;
+}
+
+takes_word : {A : Type 0} (place : ℕ) (kind : List ℕ → Result A LogLineFault) → Takes (one_word place kind)
+takes_word {A} place kind = record {
+  less = λ words value rest read.
+      let W : List (List ℕ) → Type 0 = λ ws. one_word place kind ws ≡ so value rest → length rest + 1 ≤ length ws in
       (elim words as W [
         | [] ↦ λ none. absurd cc
         | word ∷ later ↦ λ told.
-            let P : Result A LogLineFault → Type 0 = λ k. with_rest place later k ≡ so value rest → length rest ≤ length (word ∷ later) in
+            let P : Result A LogLineFault → Type 0 = λ k. with_rest place later k ≡ so value rest → length rest + 1 ≤ length (word ∷ later) in
             (elim (kind word) as P [
-              | Ok got ↦ λ is. same_rest (got, later) value rest (word ∷ later) (omega arith) is
+              | Ok got ↦ λ is.
+                  let same = same_rest (got, later) value rest later (omega arith) is in
+                  omega (arith, same)
               | Err fault ↦ λ is. absurd cc
             ]) told
       ]) read;
 }
+
+shrinks_word : {A : Type 0} (place : ℕ) (kind : List ℕ → Result A LogLineFault) → Shrinks (one_word place kind)
+shrinks_word place kind = record { short = λ words value rest read. omega (arith, (takes_word place kind).less words value rest read) }
 
 -- a word of a board text
 board_shrinks : {A : Type 0} (kind : List ℕ → Result A LineFault) (words : List (List ℕ)) (got : A × List (List ℕ)) → board_word kind words ≡ so_in_boards got.0 got.1 → length got.1 ≤ length words
@@ -119,15 +141,15 @@ shrinks_address Mem = record { short = λ words. shrinks_dword words (long_of tr
 shrinks_address Io = record { short = λ words. shrinks_dword words (hex_of 8) }
 shrinks_address Cfg = record { short = λ words. (shrinks_word 4 (λ word. of_kind (register_of word))).short words }
 
-shrinks_heading : (board : Board) → Shrinks (heading_form board)
+takes_heading : (board : Board) → Takes (heading_form board)
 unfolding heading_form
-shrinks_heading board =
-    shrinks_on _ _ (shrinks_word 0 _) (λ times.
+takes_heading board =
+    takes_on _ _ (takes_word 0 _) (λ times.
     shrinks_on _ _ (shrinks_bus board) (λ bus.
     shrinks_on _ _ (shrinks_word 2 _) (λ who.
     shrinks_on _ _ (shrinks_word 3 _) (λ command.
     shrinks_on _ _ (shrinks_address (space_of command)) (λ address. shrinks_give _)))))
 
--- so many words are left behind the heading
-pub heading_shrinks : (board : Board) (words rest : List (List ℕ)) (heading : Heading) → heading_form board words ≡ so heading rest → length rest ≤ length words
-heading_shrinks board words rest heading read = (shrinks_heading board).short words heading rest read
+-- fewer words are left behind the heading
+pub heading_shrinks : (board : Board) (words rest : List (List ℕ)) (heading : Heading) → heading_form board words ≡ so heading rest → length rest + 1 ≤ length words
+heading_shrinks board words rest heading read = (takes_heading board).less words heading rest read

@@ -11,14 +11,14 @@ use pci_command::{Outcome, Phase, Request};
 
 /// Whether a request has the command of the line, at the dword so many behind the one that it
 /// addressed.
-pub(crate) fn asks_at(seen: &Seen, k: u64, request: &Request) -> bool
+pub(crate) fn asks_at(seen: &Seen, k: u32, request: &Request) -> bool
     ensures { result ≡ asks_at seen.now k request.now }
 {
     request.command.code() == seen.command.plain().code()
         && stands_at(seen.address, k, request.address)
 }
 
-fn stands_at(addressed: Addressed, k: u64, address: u64) -> bool
+fn stands_at(addressed: Addressed, k: u32, address: u64) -> bool
     ensures { result ≡ stands_at addressed k address }
 {
     match addressed {

@@ -1,4 +1,5 @@
 ghost use Rattle.std.specs.Prelude.{◌≡◌, ◌+◌, ◌<◌, ◌≤◌, ◌^◌, ◌&&◌, not, codes, length, drop};
+ghost use Rattle.std.specs.Prelude.{OnOk};
 ghost use Rattle.std.specs.List.{list_any};
 ghost use Rattle.board_text.specs.Lines.{lines_of};
 ghost use Rattle.observe_log.specs.Logs.{has_words, is_word_alone, behind_end, words_line};
@@ -28,6 +29,7 @@ pub(crate) fn read_lines(
     requires short { length bytes.now < 2 ^ 31 }
     requires within { from ≤ length bytes.now + 1 }
     requires small { first ≤ from + 1 }
+    requires few { length reading.old.phases ≤ from }
     ensures { AddsAll result reading.new
         (lines_read board.now first reading.old (lines_of (drop from bytes.now))) }
 {
@@ -57,8 +59,12 @@ fn read_line(
     number: u32,
     reading: &mut Reading,
 ) -> Result<(), OrNoMemory<LogFault>>
-    requires { length words.old ≤ 257 }
-    ensures { AddsAll result reading.new (words_line board.now number reading.old words.old) }
+    requires few { length words.old ≤ 257 }
+    requires fits { length reading.old.phases < 2 ^ 32 }
+    ensures read { AddsAll result reading.new
+        (words_line board.now number reading.old words.old) }
+    ensures few { OnOk result
+        (length reading.new.phases ≤ length reading.old.phases + length words.old) }
 {
     if words.is_done() {
         return Ok(());

@@ -87,6 +87,7 @@ pub(crate) fn words_at(line: &[u8], plain: bool) -> Option<LineWords<'_>>
     ensures readable { MatchOption result (is_readable line.now ≡ false)
         (λ words. (is_readable line.now ≡ true) × (words ≡ words_of line.now)) }
     ensures few { IfSome result (λ words. length words ≤ 257) }
+    ensures within { IfSome result (λ words. length words ≤ length line.now + 1) }
 {
     if plain {
         Some(LineWords::of_plain(line))

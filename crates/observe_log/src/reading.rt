@@ -32,7 +32,7 @@ impl Model for Reading {
 }
 
 impl Reading {
-    ghost use Rattle.std.specs.Prelude.{◌≡◌, ◌≤◌, length};
+    ghost use Rattle.std.specs.Prelude.{◌≡◌, ◌+◌, ◌<◌, ◌≤◌, ◌^◌, length, OnOk};
     ghost use Rattle.observe_log.specs.Lines.{nothing_read, line_read};
     ghost use Rattle.observe_log.specs.Reading.{Adds};
 
@@ -63,25 +63,29 @@ impl Reading {
         number: u32,
         words: &mut LineWords,
     ) -> Result<(), LineStop>
-        requires { length words.old ≤ 257 }
-        ensures { Adds result self.new (line_read board.now number self.old words.old) }
+        requires few { length words.old ≤ 257 }
+        requires fits { length self.old.phases < 2 ^ 32 }
+        ensures read { Adds result self.new (line_read board.now number self.old words.old) }
+        ensures few { OnOk result
+            (length self.new.phases ≤ length self.old.phases + length words.old) }
     {
         let heading = read_heading(board, words)?;
-        let first = self.phases.len();
+        let first = self.phases.len() as u32;
         let (count, ending) = read_data(words, &mut self.phases)?;
-        if let Some(fault) = data_fault(heading.command, heading.address, count, ending) {
+        let phases = usize::from(count);
+        if let Some(fault) = data_fault(heading.command, heading.address, phases, ending) {
             return Err(LineStop::Fault(fault));
         }
         let seen = Seen {
-            line: number,
             start: heading.start,
             end: heading.end,
-            bus: heading.bus,
-            who: heading.who,
-            command: heading.command,
             address: heading.address,
+            line: number,
             first,
+            who: heading.who,
             count,
+            bus: heading.bus,
+            command: heading.command,
             ending,
         };
         add(&mut self.lines, &mut self.ends, seen)

@@ -152,12 +152,12 @@ fn writes(act: &Act, shown: Shown, step: Step) -> Option<Shown>
 }
 
 /// The next data phases of a posted write.
-fn next_piece(act: &Act, k: u64) -> Option<Shown>
+fn next_piece(act: &Act, k: u32) -> Option<Shown>
     ensures { IfSome result (λ after.
         next_piece act.now.seen.now act.now.words.now act.now.request.now k ≡ Some after) }
 {
     let phases = act.request.phases.as_slice();
-    let next = k.checked_add(phases.len() as u64)?;
+    let next = k.checked_add(u32::try_from(phases.len()).ok()?)?;
     if act.words.len() < k as usize {
         return None;
     }
@@ -167,12 +167,12 @@ fn next_piece(act: &Act, k: u64) -> Option<Shown>
 }
 
 /// An operation of which nothing was taken.
-fn next_lost(act: &Act, k: u64) -> Option<Shown>
+fn next_lost(act: &Act, k: u32) -> Option<Shown>
     ensures { IfSome result (λ after.
         next_lost act.now.seen.now act.now.request.now k ≡ Some after) }
 {
     let phases = act.request.phases.as_slice();
-    let next = k.checked_add(phases.len() as u64)?;
+    let next = k.checked_add(u32::try_from(phases.len()).ok()?)?;
     let asked = asks_at(act.seen, k, act.request);
     let who = act.seen.who;
     provided(asked && are_lost(who, phases), behind_lost(who, next))
@@ -192,7 +192,7 @@ fn are_lost(who: Who, phases: &[Phase]) -> bool
     }
 }
 
-fn behind_lost(who: Who, k: u64) -> Shown
+fn behind_lost(who: Who, k: u32) -> Shown
     ensures { result ≡ behind_lost who k }
 {
     match who {
@@ -283,7 +283,7 @@ fn has_dwords(most: usize, shown: Shown) -> bool
     ensures { result ≡ has_dwords most shown }
 {
     match shown {
-        Shown::Dwords(k) => 0 < k && most as u64 <= k,
+        Shown::Dwords(k) => 0 < k && most <= k as usize,
         Shown::Latched(_) | Shown::Whole => false,
     }
 }

@@ -4,7 +4,7 @@ use pci_command::OpId;
 #[derive(Clone, Copy, PartialEq, Eq)]
 pub(crate) enum Shown {
     /// So many dwords, from the one on that it addressed.
-    Dwords(u64),
+    Dwords(u32),
     /// That this operation was latched.
     Latched(OpId),
     /// All that it shows.

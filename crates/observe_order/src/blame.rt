@@ -51,12 +51,7 @@ fn waited_for(past: &Past, candidates: &[Candidate], named: &Candidate) -> Optio
         return None;
     }
     let before = bus_before(past, named)?;
-    let waits = past
-        .heads
-        .left_on(before)
-        .iter()
-        .any(|act| act.op == named.act.op);
-    if waits {
+    if past.heads.has_left(before, named.act.op) {
         candidates
             .iter()
             .find(|candidate| candidate.bus == before)

@@ -111,11 +111,7 @@ impl<'a> Past<'a> {
     /// The first line that is left at which the lane takes the operation.
     fn first_left(&self, lane: Lane, op: OpId) -> Option<u32> {
         let bus = self.near_bus(lane);
-        let acts = self.heads.left_on(bus);
-        let found = acts
-            .iter()
-            .find(|act| act.op == op && act.place == Place::Lane(lane));
-        found.map(|act| act.line)
+        self.heads.first_left(bus, op, Place::Lane(lane))
     }
 
     /// The bus on which the lane begins, which is that on which the other lane of its bridge ends.

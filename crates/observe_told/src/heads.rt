@@ -1,7 +1,9 @@
-use crate::{Seen, SeenAct, Who};
-use history_model::{By, Event};
-use pci_command::NoMemory;
+use crate::{LineActs, Seen, SeenAct};
+use board_model::Place;
+use history_model::Event;
+use pci_command::{NoMemory, OpId};
 use std::alloc::Global;
+use std::ops::Range;
 
 /// The acts of a bus that are left: the place of the next, and the one behind the last.
 #[derive(Clone, Copy, Debug)]
@@ -28,7 +30,7 @@ pub struct Candidate {
 /// The acts that are left of each bus.
 #[derive(Debug, Drop)]
 pub struct Heads<'a> {
-    acts: &'a [SeenAct],
+    acts: &'a LineActs,
     lines: &'a [Seen],
     heads: Vec<Head>,
     /// The next act of each bus, by when its line began.
@@ -39,12 +41,12 @@ impl<'a> Heads<'a> {
     /// All acts, which stand bus by bus.
     pub fn new(
         alloc: Global,
-        acts: &'a [SeenAct],
+        acts: &'a LineActs,
         lines: &'a [Seen],
     ) -> Result<Heads<'a>, NoMemory> {
         let mut heads = Vec::new(alloc);
-        for (place, act) in acts.iter().enumerate() {
-            if let Some(seen) = lines.get(act.line as usize) {
+        for (place, line) in acts.lines.iter().enumerate() {
+            if let Some(seen) = lines.get(*line as usize) {
                 list(&mut heads, seen.bus, place)?;
             }
         }
@@ -76,12 +78,12 @@ impl<'a> Heads<'a> {
 
     /// The act at this place.
     pub fn act(&self, place: u32) -> Option<SeenAct> {
-        self.acts.get(place as usize).copied()
+        self.acts.get(place as usize)
     }
 
     /// How many acts there are in all.
     pub fn total(&self) -> usize {
-        self.acts.len()
+        self.acts.lines.len()
     }
 
     /// The next acts that no line which ended before keeps from being the next of all, by when
@@ -145,25 +147,47 @@ impl<'a> Heads<'a> {
 
     fn candidate(&self, place: usize) -> Option<Candidate> {
         let head = self.heads.get(place).filter(|head| head.next < head.end)?;
-        let act = *self.acts.get(head.next)?;
+        let act = self.acts.get(head.next)?;
+        let event = *self.acts.events.get(head.next)?;
         let seen = self.seen(act.line)?;
         Some(Candidate {
             start: seen.start,
             end: seen.end,
             line: act.line,
             act,
-            event: event_of(seen, act),
+            event,
             head: place,
             bus: head.bus,
             is_refused: false,
         })
     }
 
-    /// The acts of the bus that are left.
-    pub fn left_on(&self, bus: u8) -> &'a [SeenAct] {
+    /// Whether an act of the operation is left on the bus.
+    pub fn has_left(&self, bus: u8, op: OpId) -> bool {
+        for place in self.left_on(bus) {
+            if self.acts.get(place).is_some_and(|act| act.op == op) {
+                return true;
+            }
+        }
+        false
+    }
+
+    /// The first line that is left on the bus at which the operation is claimed so.
+    pub fn first_left(&self, bus: u8, op: OpId, claimed: Place) -> Option<u32> {
+        for place in self.left_on(bus) {
+            let act = self.acts.get(place)?;
+            if act.op == op && act.place == claimed {
+                return Some(act.line);
+            }
+        }
+        None
+    }
+
+    /// The places of the acts of the bus that are left.
+    fn left_on(&self, bus: u8) -> Range<usize> {
         match self.heads.iter().find(|head| head.bus == bus) {
-            Some(head) => self.acts.get(head.next..head.end).unwrap_or(&[]),
-            None => &[],
+            Some(head) => head.next..head.end,
+            None => 0..0,
         }
     }
 
@@ -171,8 +195,11 @@ impl<'a> Heads<'a> {
     pub fn left(&self, alloc: Global) -> Result<Vec<SeenAct>, NoMemory> {
         let mut left = Vec::new(alloc);
         for head in &self.heads {
-            let acts = self.acts.get(head.next..head.end).unwrap_or(&[]);
-            left.extend_from_slice(acts)?;
+            for place in head.next..head.end {
+                if let Some(act) = self.acts.get(place) {
+                    left.push(act)?;
+                }
+            }
         }
         let lines = self.lines;
         left.sort_by_key(|act| {
@@ -226,20 +253,5 @@ fn is_last_of(heads: &[Head], bus: u8) -> bool {
 fn lengthen(heads: &mut [Head], end: usize) {
     if let Some(head) = heads.last_mut() {
         head.end = end;
-    }
-}
-
-/// The act as an event.
-pub fn event_of(seen: &Seen, act: SeenAct) -> Event {
-    let by = match seen.who {
-        Who::Master(_) => By::Master,
-        Who::Lane(lane) => By::Lane(lane),
-    };
-    Event::Act {
-        bus: seen.bus,
-        by,
-        op: act.op,
-        step: act.step,
-        place: act.place,
     }
 }

@@ -7,7 +7,7 @@ mod refusal;
 mod seen;
 mod seen_act;
 
-pub use heads::{Candidate, Heads, event_of};
+pub use heads::{Candidate, Heads};
 pub use refusal::{ActsTold, Brought, HeldPhase, Refused, RefusedLog, Retold, Unfound, WhyNot};
 pub use seen::{Addressed, Ending, LineWord, Log, Seen, Who};
-pub use seen_act::SeenAct;
+pub use seen_act::{LineActs, SeenAct};

@@ -40,20 +40,20 @@ pub enum Addressed {
 /// A line of a log: one transaction on a bus.
 #[derive(Clone, Copy, Debug, PartialEq, Eq)]
 pub struct Seen {
-    /// The number of the line, from 1, in the whole text.
-    pub line: u32,
     /// When the address was on the bus, and when the transaction ended, which is not before.
     pub start: u64,
     pub end: u64,
-    pub bus: u8,
-    pub who: Who,
-    /// As on the bus: `mrl` and `mwi` are not `mr` and `mw`.
-    pub command: Command,
     pub address: Addressed,
+    /// The number of the line, from 1, in the whole text.
+    pub line: u32,
     /// Where its data phases stand in those of the log: the first, and how many. They are those in
     /// which data was transferred; where there was none, at most one that a write offered.
-    pub first: usize,
-    pub count: usize,
+    pub first: u32,
+    pub who: Who,
+    pub count: u8,
+    pub bus: u8,
+    /// As on the bus: `mrl` and `mwi` are not `mr` and `mw`.
+    pub command: Command,
     pub ending: Ending,
 }
 
@@ -142,9 +142,9 @@ impl Log {
         ensures { result.now ≡ phases_of_line self.now seen.now }
     {
         let phases = self.phases.as_slice();
-        let first = seen.first.min(phases.len());
+        let first = (seen.first as usize).min(phases.len());
         let (_before, from_first) = phases.split_at(first);
-        let count = seen.count.min(from_first.len());
+        let count = usize::from(seen.count).min(from_first.len());
         let (own, _behind) = from_first.split_at(count);
         own
     }

@@ -1,4 +1,4 @@
-ghost use Rattle.std.specs.Prelude.{◌≡◌, ◌≤◌, [], length};
+ghost use Rattle.std.specs.Prelude.{◌≡◌, ◌+◌, ◌≤◌, [], length, OnOk};
 ghost use Rattle.observe_log.specs.Lines.{abort_of, ending_of, data_read, data_fault, is_single};
 ghost use Rattle.observe_log.specs.Lines.{is_single_write, needs_data, most_offered, past_offered};
 ghost use Rattle.observe_log.specs.Lines.{past_space, room_from};
@@ -19,15 +19,17 @@ use text_faults::LogLineFault;
 pub(crate) fn read_data(
     words: &mut LineWords,
     phases: &mut Vec<Phase>,
-) -> Result<(usize, Ending), LineStop>
-    requires { length words.old ≤ 1000 }
-    ensures { TellsData result phases.old.items phases.new.items (data_read 5 [] words.old) }
+) -> Result<(u8, Ending), LineStop>
+    requires { length words.old ≤ 256 }
+    ensures told { TellsData result phases.old.items phases.new.items (data_read 5 [] words.old) }
+    ensures few { OnOk result
+        (length phases.new.items ≤ length phases.old.items + length words.old) }
 {
     let mut count = 0;
     while let Some(word) = words.take() {
         if let Some(ending) = ending_of(word) {
             if words.is_done() {
-                return Ok((count, ending));
+                return Ok((count as u8, ending));
             }
             return Err(LineStop::Fault(misread(count + 6)));
         }

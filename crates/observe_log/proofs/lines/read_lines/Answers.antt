@@ -14,7 +14,7 @@ returns-in-Err c =
     let more : is_last line rest ≡ false = not_last line rest words c.is_last.result cut.1 c.is_last.ensures c.if-is_last.false in
     let whole : lines_read c.args.board.now c.loop-line.number c.loop-line.reading (line ∷ rest) ≡ lines_read c.args.board.now c.args.first c.args.reading.now (lines_of (drop c.args.from text)) =
     ap (lines_read c.args.board.now c.loop-line.number c.loop-line.reading) (sym c.in-Some.ensures.line) ∙ c.loop-line.invariant.lines in
-    all_fail c.args.board.now c.loop-line.number c.loop-line.reading c.read_line.new.reading line rest words _ cut.0 more cut.1 whole c.in-Err.fault c.in-Err.ensures
+    all_fail c.args.board.now c.loop-line.number c.loop-line.reading c.read_line.new.reading line rest words _ cut.0 more cut.1 whole c.in-Err.fault c.in-Err.ensures.read
 
 pub loop-line-preserved : goal.loop-line-preserved
 loop-line-preserved c =
@@ -25,11 +25,12 @@ loop-line-preserved c =
     let rest = lines_of (drop c.in-Some.next text) in
     let old = c.loop-line.invariant in
     let more : is_last line rest ≡ false = not_last line rest words c.is_last.result cut.1 c.is_last.ensures c.if-is_last.false in
-    let step = line_more c.args.board.now c.loop-line.number c.loop-line.reading c.read_line.new.reading line rest words cut.0 more cut.1 c.in-Ok.ensures in
+    let step = line_more c.args.board.now c.loop-line.number c.loop-line.reading c.read_line.new.reading line rest words cut.0 more cut.1 c.in-Ok.ensures.read in
     let whole : lines_read c.args.board.now c.loop-line.number c.loop-line.reading (line ∷ rest) ≡ lines_read c.args.board.now c.args.first c.args.reading.now (lines_of (drop c.args.from text)) =
     ap (lines_read c.args.board.now c.loop-line.number c.loop-line.reading) (sym c.in-Some.ensures.line) ∙ old.lines in
     record {
       within = omega (arith, c.in-Some.ensures.within, c.in-Some.ensures.next);
       counted = omega (arith, old.counted, c.in-Some.ensures.next);
+      few = omega (arith, old.few, c.in-Ok.ensures.few, c.in-Some-words_at.ensures.within, c.in-Some.ensures.next);
       lines = sym step ∙ whole;
     }

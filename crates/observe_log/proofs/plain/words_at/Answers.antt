@@ -11,3 +11,9 @@ pub returns-then-is_readable-clause-few : goal.returns-then-is_readable-clause-f
 returns-then-is_readable-clause-few c =
     let short = c.if-is_readable.ensures.short refl in
     omega (arith, few_words c.args.line.now, ap length c.new.ensures, short)
+
+pub returns-then-plain-clause-within : goal.returns-then-plain-clause-within
+returns-then-plain-clause-within c = omega (arith, few_words c.args.line.now, ap length c.of_plain.ensures)
+
+pub returns-then-is_readable-clause-within : goal.returns-then-is_readable-clause-within
+returns-then-is_readable-clause-within c = omega (arith, few_words c.args.line.now, ap length c.new.ensures)

@@ -1,6 +1,6 @@
-use Rattle.observe_order.specs.Going.{IsGoing}
+use Rattle.judge_next.specs.Course.{HasCourse}
 use Rattle.observe_order.proofs.ordering.go_on.Given as goal
 
--- the run goes on
+-- it is a course
 abbrev pub invariant-loop-act : goal.invariant-loop-act
-invariant-loop-act l = IsGoing l.tree l.events.items l.course
+invariant-loop-act l = HasCourse l.tree l.course

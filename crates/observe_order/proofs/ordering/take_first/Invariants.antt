@@ -1,6 +1,6 @@
-use Rattle.observe_order.specs.Going.{IsGoing}
+use Rattle.judge_next.specs.Course.{HasCourse}
 use Rattle.observe_order.proofs.ordering.take_first.Given as goal
 
--- the run goes on
-abbrev pub invariant-loop-place : goal.invariant-loop-place
-invariant-loop-place l = IsGoing l.tree l.events.items l.course
+-- it is a course
+abbrev pub invariant-loop-candidate : goal.invariant-loop-candidate
+invariant-loop-candidate l = HasCourse l.tree l.course
