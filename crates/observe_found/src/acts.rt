@@ -1,8 +1,9 @@
 use crate::errands::Errands;
-use crate::ground::Ground;
+use crate::ground::{Ground, number};
 use crate::latches::outcome;
+use crate::maybe::MaybeOp;
 use crate::pairing::pair;
-use crate::programs::{Draft, Programs};
+use crate::programs::Programs;
 use crate::streams::Streams;
 use board_model::{Lane, Place};
 use history_model::Step;
@@ -38,61 +39,90 @@ impl<'a> Told<'a> {
         self.programs
             .write_all(ground, &mut self.streams, &mut self.errands)
     }
+}
 
-    pub(crate) fn into_drafts(self) -> Vec<Draft> {
-        let Told { programs, .. } = self;
-        let Programs { masters, .. } = programs;
-        masters
+/// What is known of a line of an errand: its operation, and whether it latched that.
+#[derive(Clone, Copy)]
+struct Done {
+    op: MaybeOp,
+    is_latch: bool,
+}
+
+/// What acts are told by, once the errands are let go.
+#[derive(Drop)]
+pub(crate) struct Deeds<'a> {
+    ground: &'a Ground<'a>,
+    done: Vec<Done>,
+    streams: &'a Streams,
+    programs: &'a Programs,
+}
+
+impl<'a> Deeds<'a> {
+    /// What the errands tell of each line.
+    pub(crate) fn new(
+        ground: &'a Ground<'a>,
+        errands: Errands,
+        streams: &'a Streams,
+        programs: &'a Programs,
+    ) -> Result<Deeds<'a>, NoMemory> {
+        let done = done_by(ground, &errands)?;
+        drop(errands);
+        Ok(Deeds {
+            ground,
+            done,
+            streams,
+            programs,
+        })
     }
 }
 
-impl Told<'_> {
+/// Of each line its operation, where it is of an errand that has one, and whether it latched that.
+fn done_by(ground: &Ground, errands: &Errands) -> Result<Vec<Done>, NoMemory> {
+    let mut done = Vec::with_capacity(ground.alloc, ground.lines.len())?;
+    for line in 0..ground.lines.len() {
+        let errand = errands.of_line(number(line));
+        let op = errand.and_then(|errand| errands.op_of(errand));
+        done.push(Done {
+            op: op.map_or(MaybeOp::NONE, MaybeOp::some),
+            is_latch: false,
+        })?;
+    }
+    for errand in 0..errands.count() {
+        let latch = errands.get(errand).latch;
+        if let Some(done) = latch.and_then(|line| done.get_mut(line as usize)) {
+            done.is_latch = true;
+        }
+    }
+    Ok(done)
+}
+
+impl Deeds<'_> {
     /// Lists the acts of all lines, bus by bus, and there in the order of the lines.
     pub(crate) fn list_acts(&self, acts: &mut LineActs) -> Result<(), NoMemory> {
-        let latched = self.latched()?;
         acts.reserve(self.ground.lines.len())?;
-        self.list(latched.as_slice(), acts)
-    }
-
-    fn list(&self, latched: &[bool], acts: &mut LineActs) -> Result<(), NoMemory> {
         for bus in 0..=255u8 {
             for line in self.ground.on_bus(bus) {
-                let is_latched = latched.get(*line as usize).copied().unwrap_or(false);
-                self.act(*line, is_latched, acts)?;
+                self.act(*line, acts)?;
             }
         }
         Ok(())
     }
 
-    /// Of each line whether it latched a request.
-    fn latched(&self) -> Result<Vec<bool>, NoMemory> {
-        let mut latched = vec![in self.ground.alloc; false; self.ground.lines.len()]?;
-        for errand in 0..self.errands.count() {
-            if let Some(line) = self.errands.get(errand).latch {
-                if let Some(latched) = latched.get_mut(line as usize) {
-                    *latched = true;
-                }
-            }
-        }
-        Ok(latched)
-    }
-
-    fn act(&self, line: u32, is_latched: bool, acts: &mut LineActs) -> Result<(), NoMemory> {
+    fn act(&self, line: u32, acts: &mut LineActs) -> Result<(), NoMemory> {
         let Some(seen) = self.ground.seen(line) else {
             return Ok(());
         };
-        match self.errands.of_line(line) {
-            Some(errand) => {
-                let Some(op) = self.errands.op_of(errand) else {
-                    return Ok(());
-                };
-                if is_latched {
-                    self.push(line, seen, (op, Step::Latch), acts)?;
-                }
-                self.end(line, seen, op, acts)
-            }
-            None => self.posted(line, seen, acts),
+        if seen.is_posted() {
+            return self.posted(line, seen, acts);
         }
+        let done = self.done.get(line as usize);
+        let Some(op) = done.and_then(|done| done.op.get()) else {
+            return Ok(());
+        };
+        if done.is_some_and(|done| done.is_latch) {
+            self.push(line, seen, (op, Step::Latch), acts)?;
+        }
+        self.end(line, seen, op, acts)
     }
 
     fn push(

@@ -35,13 +35,13 @@ pub(crate) struct Errand {
     pub(crate) op: Option<OpId>,
 }
 
-/// What is kept of an errand: the same in fewer bytes.
+/// What is kept of an errand: the same in fewer bytes. Its lines end where those of the next begin.
 #[derive(Clone, Copy)]
 struct Kept {
     deadline: u64,
     release: u64,
+    /// While lines are sorted, how many it has.
     first: u32,
-    count: u32,
     ended: MaybePlace,
     shown: MaybePlace,
     near: MaybePlace,
@@ -75,7 +75,6 @@ impl Kept {
             deadline: NO_TIME,
             release: 0,
             first: 0,
-            count: 0,
             ended: MaybePlace::NONE,
             shown: MaybePlace::NONE,
             near: MaybePlace::NONE,
@@ -86,10 +85,11 @@ impl Kept {
         }
     }
 
-    fn errand(&self) -> Errand {
+    /// The same, where its lines end there.
+    fn errand(&self, end: u32) -> Errand {
         Errand {
             first: self.first,
-            count: self.count,
+            count: end.saturating_sub(self.first),
             ended: self.ended.get(),
             shown: self.shown.get(),
             deadline: self.deadline,
@@ -153,7 +153,7 @@ impl Errands {
             None => self.begin(open, asked)?,
         };
         if let Some(errand) = self.all.get_mut(errand as usize) {
-            errand.count = errand.count.saturating_add(1);
+            errand.first = errand.first.saturating_add(1);
             if seen.ending != Ending::Retry {
                 errand.ended = MaybePlace::some(line);
                 errand.shown = MaybePlace::some(line);
@@ -176,9 +176,10 @@ impl Errands {
     fn count_lines(&mut self, next: &mut Vec<u32>) -> Result<(), NoMemory> {
         let mut total = 0u32;
         for errand in self.all.iter_mut() {
+            let count = errand.first;
             errand.first = total;
             next.push(total)?;
-            total = total.saturating_add(errand.count);
+            total = total.saturating_add(count);
         }
         self.lines.resize(total as usize, 0)?;
         Ok(())
@@ -204,8 +205,17 @@ impl Errands {
     /// The errand of this number.
     pub(crate) fn get(&self, errand: u32) -> Errand {
         match self.all.get(errand as usize) {
-            Some(kept) => kept.errand(),
+            Some(kept) => kept.errand(self.end_of(errand)),
             None => Errand::default(),
+        }
+    }
+
+    /// Where its lines end among those of all errands.
+    fn end_of(&self, errand: u32) -> u32 {
+        let behind = (errand as usize).saturating_add(1);
+        match self.all.get(behind) {
+            Some(next) => next.first,
+            None => number(self.lines.len()),
         }
     }
 

@@ -1,4 +1,4 @@
-use crate::acts::Told;
+use crate::acts::{Deeds, Told};
 use crate::agents::{all_masters, list_targets};
 use crate::depths::{list_bridges, list_discards};
 use crate::errands::Errands;
@@ -89,15 +89,13 @@ pub fn find(
     times: Times,
 ) -> Result<LogFound, Unfound> {
     let ground = Ground::new(alloc, tree, lines, phases, times)?;
+    let mut ground = ground;
     let lanes = ground.lanes()?;
-    find_on(&ground, lanes.as_slice())
-}
-
-fn find_on(ground: &Ground, lanes: &[Lane]) -> Result<LogFound, Unfound> {
-    let mut sought = Sought::new(ground.alloc);
-    let drafts = sought.seek(ground, lanes)?;
-    let masters = all_masters(ground, drafts)?;
-    Ok(sought.with(ground, masters))
+    let mut sought = Sought::new(alloc);
+    let drafts = sought.seek(&ground, lanes.as_slice())?;
+    ground.forget_buses();
+    let masters = all_masters(&ground, drafts)?;
+    Ok(sought.with(&ground, masters))
 }
 
 impl Sought {
@@ -111,12 +109,22 @@ impl Sought {
         }
     }
 
-    /// All that is found, and the programs that are not written out yet.
+    /// All that is found, and the programs that are not written out yet. Acts are listed once the
+    /// errands are let go, of which there are many.
     fn seek(&mut self, ground: &Ground, lanes: &[Lane]) -> Result<Vec<Draft>, Unfound> {
         let mut told = Told::new(ground);
         told.follow(lanes)?;
         self.list(lanes, &told)?;
-        Ok(told.into_drafts())
+        let Told {
+            errands,
+            streams,
+            programs,
+            ..
+        } = told;
+        let deeds = Deeds::new(ground, errands, &streams, &programs)?;
+        deeds.list_acts(&mut self.acts)?;
+        drop(deeds);
+        Ok(programs.into_drafts())
     }
 
     fn list(&mut self, lanes: &[Lane], told: &Told) -> Result<(), Unfound> {
@@ -124,7 +132,6 @@ impl Sought {
         list_targets(ground, &mut self.targets)?;
         list_discards(ground, lanes, errands, &mut self.discards, &mut self.notes)?;
         list_bridges(ground, &told.streams, &mut self.bridges, &mut self.notes)?;
-        told.list_acts(&mut self.acts)?;
         note_rest(ground, errands, &mut self.notes)?;
         Ok(())
     }

@@ -50,9 +50,9 @@ struct OnBuses {
 /// configuration space of type 1) and of a write its word.
 #[derive(Clone, Copy, Default, PartialEq, Eq, PartialOrd, Ord, Hash)]
 pub(crate) struct Wanted {
-    pub(crate) code: u8,
     pub(crate) address: u64,
     pub(crate) value: u32,
+    pub(crate) code: u8,
     pub(crate) enables: u8,
 }
 
@@ -89,6 +89,16 @@ impl<'a> Ground<'a> {
             on_buses,
             of_phases,
         })
+    }
+
+    /// Which lines stand on which bus is not asked any more.
+    pub(crate) fn forget_buses(&mut self) {
+        let alloc = self.alloc;
+        self.on_buses = OnBuses {
+            lines: Vec::new(alloc),
+            firsts: Vec::new(alloc),
+            places: Vec::new(alloc),
+        };
     }
 
     /// The line at this place of the log.

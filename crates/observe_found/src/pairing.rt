@@ -15,15 +15,23 @@ const MOST_TIMES: usize = 64;
 
 const MOST_ERRANDS: usize = 2_000_000;
 
-/// An errand at one end of a lane, in the order in which errands are paired: lane by lane, request
-/// by request, by when they began.
-#[derive(Clone, Copy, PartialEq, Eq, PartialOrd, Ord)]
+/// An errand at one end of a lane, by its rank among the lanes. Those of one request at one lane
+/// stand together, by when they began, and have one number.
+#[derive(Clone, Copy)]
 struct Entry {
-    rank: u32,
+    errand: u32,
+    request: u32,
+    rank: u16,
+    is_far: bool,
+}
+
+/// By what the entries of a lane are sorted: request by request, by when they began.
+#[derive(Clone, Copy)]
+struct Keyed {
     wanted: Wanted,
     start: u64,
-    is_far: bool,
     errand: u32,
+    is_far: bool,
 }
 
 /// Errands of one request at one lane that are open together: behind them nothing of it is open.
@@ -80,11 +88,27 @@ pub(crate) fn pair(
     all.settle(errands, &mut choices)
 }
 
+/// Lane by lane, and there as they are sorted. They are sorted by lanes first, so that what they are
+/// sorted by stands there of one lane at a time.
 fn entries(ground: &Ground, lanes: &[Lane], errands: &Errands) -> Result<Vec<Entry>, NoMemory> {
     let mut entries = Vec::new(ground.alloc);
     list_entries(ground, lanes, errands, &mut entries)?;
-    entries.sort_unstable();
+    entries.sort_unstable_by_key(|entry| (entry.rank, entry.errand, entry.is_far));
+    let mut end = 0usize;
+    let mut request = 0u32;
+    for rank in 0..lanes.len() {
+        let first = end;
+        end = end_of_lane(entries.as_slice(), rank);
+        if let Some(own) = entries.as_mut_slice().get_mut(first..end) {
+            request = sort_lane(ground, errands, own, request)?;
+        }
+    }
     Ok(entries)
+}
+
+/// Behind the last entry of the lane of this rank.
+fn end_of_lane(entries: &[Entry], rank: usize) -> usize {
+    entries.partition_point(|entry| usize::from(entry.rank) <= rank)
 }
 
 fn list_entries(
@@ -96,23 +120,57 @@ fn list_entries(
     for errand in 0..errands.count() {
         let found = errands.get(errand);
         if let Some(rank) = rank_of(lanes, errands.driver(ground, &found)) {
-            entries.push(entry_of(ground, errands, rank, true, errand))?;
+            entries.push(entry_of(rank, true, errand))?;
         }
         if let Some(rank) = rank_of(lanes, errands.claiming_lane(ground, &found)) {
-            entries.push(entry_of(ground, errands, rank, false, errand))?;
+            entries.push(entry_of(rank, false, errand))?;
         }
     }
     Ok(())
 }
 
-fn entry_of(ground: &Ground, errands: &Errands, rank: u32, is_far: bool, errand: u32) -> Entry {
-    let found = errands.get(errand);
+fn entry_of(rank: u32, is_far: bool, errand: u32) -> Entry {
     Entry {
-        rank,
+        errand,
+        request: 0,
+        rank: u16::try_from(rank).unwrap_or(u16::MAX),
+        is_far,
+    }
+}
+
+/// Sorts the entries of a lane, whose requests are numbered from there on: the number behind them.
+fn sort_lane(
+    ground: &Ground,
+    errands: &Errands,
+    own: &mut [Entry],
+    first: u32,
+) -> Result<u32, NoMemory> {
+    let mut keyed = Vec::with_capacity(ground.alloc, own.len())?;
+    for entry in own.iter() {
+        keyed.push(keyed_by(ground, errands, entry))?;
+    }
+    keyed.sort_unstable_by_key(|keyed| keyed.turn());
+    let mut request = first;
+    let mut before = Wanted::default();
+    for (entry, keyed) in own.iter_mut().zip(keyed.iter()) {
+        if keyed.wanted != before {
+            request = request.saturating_add(1);
+            before = keyed.wanted;
+        }
+        entry.errand = keyed.errand;
+        entry.is_far = keyed.is_far;
+        entry.request = request;
+    }
+    Ok(request.saturating_add(1))
+}
+
+fn keyed_by(ground: &Ground, errands: &Errands, entry: &Entry) -> Keyed {
+    let found = errands.get(entry.errand);
+    Keyed {
         wanted: wanted(ground, errands.first_line(&found)),
         start: errands.start(ground, &found),
-        is_far,
-        errand,
+        errand: entry.errand,
+        is_far: entry.is_far,
     }
 }
 
@@ -122,7 +180,7 @@ fn asked_times(
     entries: &[Entry],
     errands: &Errands,
 ) -> Result<Vec<u64>, NoMemory> {
-    let mut asked = vec![in ground.alloc; 0u64; ground.lines.len()]?;
+    let mut asked = vec![in ground.alloc; 0u64; errands.count() as usize]?;
     let mut end = 0usize;
     for (place, entry) in entries.iter().enumerate() {
         if place == end {
@@ -149,8 +207,9 @@ fn note_asked(
         let ended = errands.get(far.errand).ended;
         let ended = ended.map_or(NO_TIME, |line| ground.start(line));
         let at = reaches.as_slice().partition_point(|reach| *reach < ended);
+        let near = same.get(at).map(|near| errands.get(near.errand));
         if let Some(slot) = asked.get_mut(far.errand as usize) {
-            *slot = same.get(at).map_or(NO_TIME, |near| near.start);
+            *slot = near.map_or(NO_TIME, |near| errands.start(ground, &near));
         }
     }
     Ok(())
@@ -178,7 +237,13 @@ fn wanted(ground: &Ground, line: u32) -> Wanted {
 impl Entry {
     /// Whether both are of one request at one lane.
     fn is_with(&self, other: &Entry) -> bool {
-        self.rank == other.rank && self.wanted == other.wanted
+        self.request == other.request
+    }
+}
+
+impl Keyed {
+    fn turn(&self) -> (Wanted, u64, bool, u32) {
+        (self.wanted, self.start, self.is_far, self.errand)
     }
 }
 
@@ -192,7 +257,13 @@ impl Part {
     }
 
     /// The part that stands there.
-    fn fill(&mut self, own: &[Entry], span: &Span, errands: &Errands) -> Result<(), NoMemory> {
+    fn fill(
+        &mut self,
+        ground: &Ground,
+        own: &[Entry],
+        span: &Span,
+        errands: &Errands,
+    ) -> Result<(), NoMemory> {
         self.fars.clear();
         self.nears.clear();
         for entry in own.get(span.first..span.end).unwrap_or(&[]) {
@@ -203,11 +274,12 @@ impl Part {
             }
         }
         if let Some(entry) = own.get(span.first) {
+            let first = errands.get(entry.errand);
             self.of = PartOf {
-                rank: entry.rank,
+                rank: u32::from(entry.rank),
                 first: entry.errand,
-                wanted: entry.wanted,
-                start: entry.start,
+                wanted: wanted(ground, errands.first_line(&first)),
+                start: errands.start(ground, &first),
                 reach: span.reach,
             };
         }
@@ -216,8 +288,9 @@ impl Part {
 }
 
 impl Span {
-    fn goes_on(&self, before: &Entry, entry: &Entry) -> bool {
-        before.wanted == entry.wanted && entry.start <= self.reach
+    /// Whether an entry that began then goes on with what begins with the one before.
+    fn goes_on(&self, before: &Entry, entry: &Entry, start: u64) -> bool {
+        before.is_with(entry) && start <= self.reach
     }
 
     /// With the entry at this place.
@@ -255,12 +328,12 @@ impl Lanes<'_> {
     /// Whether each part has a choice that suffices, which then is made.
     fn pair(&self, errands: &mut Errands, choices: &mut Choices) -> Result<bool, Unfound> {
         choices.begin();
+        let mut end = 0usize;
         for rank in 0..self.lanes.len() {
-            let rank = number(rank);
-            let first = self.entries.partition_point(|entry| entry.rank < rank);
-            let end = self.entries.partition_point(|entry| entry.rank <= rank);
+            let first = end;
+            end = end_of_lane(self.entries, rank);
             let own = self.entries.get(first..end).unwrap_or(&[]);
-            if !self.pair_lane(rank, own, errands, choices)? {
+            if !self.pair_lane(number(rank), own, errands, choices)? {
                 return Ok(false);
             }
         }
@@ -281,7 +354,7 @@ impl Lanes<'_> {
         let mut held = Held::new(self.ground, sides.stream.lane)?;
         let mut part = Part::new(self.ground);
         for span in &spans {
-            part.fill(own, span, errands)?;
+            part.fill(self.ground, own, span, errands)?;
             sort_by_shown(self.ground, errands, &mut part.fars);
             if !self.pair_part(sides, &part, &mut held, errands, choices)? {
                 return Ok(false);
@@ -314,9 +387,10 @@ impl Lanes<'_> {
             if entry.is_far && errand.shown.is_none() {
                 continue;
             }
+            let start = errands.start(self.ground, &errand);
             let goes_on = own
                 .get(span.first)
-                .is_some_and(|before| span.goes_on(before, entry));
+                .is_some_and(|before| span.goes_on(before, entry, start));
             if !goes_on {
                 list_span(&mut spans, span)?;
                 span = Span {

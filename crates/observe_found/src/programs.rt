@@ -98,6 +98,11 @@ impl Programs {
         }
     }
 
+    pub(crate) fn into_drafts(self) -> Vec<Draft> {
+        let Programs { masters, .. } = self;
+        masters
+    }
+
     /// The programs, and whose operation each errand and each data phase of a master is.
     pub(crate) fn write_all(
         &mut self,
