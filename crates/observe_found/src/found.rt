@@ -88,8 +88,7 @@ pub fn find(
     phases: &[Phase],
     times: Times,
 ) -> Result<LogFound, Unfound> {
-    let ground = Ground::new(alloc, tree, lines, phases, times)?;
-    let mut ground = ground;
+    let mut ground = Ground::new(alloc, tree, lines, phases, times)?;
     let lanes = ground.lanes()?;
     let mut sought = Sought::new(alloc);
     let drafts = sought.seek(&ground, lanes.as_slice())?;

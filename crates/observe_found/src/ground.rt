@@ -91,9 +91,10 @@ impl<'a> Ground<'a> {
         })
     }
 
-    /// Which lines stand on which bus is not asked any more.
+    /// Who claims a line, and which lines stand on which bus, is not asked any more.
     pub(crate) fn forget_buses(&mut self) {
         let alloc = self.alloc;
+        self.claimants = Vec::new(alloc);
         self.on_buses = OnBuses {
             lines: Vec::new(alloc),
             firsts: Vec::new(alloc),
