@@ -1,6 +1,5 @@
 use board_model::Board;
-use observe_found::{Counts, Note, Unseen};
-use observe_told::{LineWord, Log, Who};
+use observe_told::{Counts, LineWord, Log, Note, Unseen, Who};
 use pci_command::{NoMemory, OpId};
 use std::alloc::{AllocError, Global};
 use trace_text::{LaneWord, master_name, print_operation};

@@ -1,13 +1,12 @@
 use crate::errands::Errands;
 use crate::ground::{Ground, number};
 use crate::latches::outcome;
-use crate::maybe::MaybeOp;
 use crate::pairing::pair;
 use crate::programs::Programs;
 use crate::streams::Streams;
 use board_model::{Lane, Place};
 use history_model::Step;
-use observe_told::{Ending, LineActs, Seen, SeenAct, Unfound, Who};
+use observe_told::{Ending, LineActs, MaybeOp, Seen, SeenAct, Unfound, Who};
 use pci_command::{NoMemory, OpId};
 
 /// What the acts are told by: errands, streams and programs of a log.

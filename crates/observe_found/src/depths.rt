@@ -1,10 +1,9 @@
 use crate::errands::Errands;
-use crate::found::Note;
-use crate::ground::{Ground, bump, rank_of};
+use crate::ground::{Ground, rank_of};
 use crate::slots::{Change, Slots, list_changes, slots_of};
 use crate::streams::Streams;
 use board_model::{Bridge, Lane, Planned};
-use observe_told::Unfound;
+use observe_told::{Note, Unfound, bump};
 use pci_command::NoMemory;
 
 /// How many posted writes a bridge may hold one way.

@@ -1,7 +1,6 @@
-use crate::ground::{Ground, NO_TIME, Wanted, bump, number};
-use crate::maybe::{MaybeOp, MaybePlace};
+use crate::ground::{Ground, NO_TIME, Wanted, number};
 use board_model::{Lane, Place};
-use observe_told::{Ending, Seen, Who};
+use observe_told::{Ending, MaybeOp, MaybePlace, Seen, Who, bump};
 use pci_command::{NoMemory, OpId};
 use std::alloc::Global;
 use std::collections::HashMap;

@@ -3,7 +3,7 @@ ghost use Rattle.board_model.specs.WellFormed.{is_well_formed};
 
 use board_model::{Board, Lane, Place, bridge_to, end_of, primary_of};
 use board_tree::Tree;
-use observe_told::{Addressed, Ending, Seen, Who};
+use observe_told::{Addressed, BusLines, Ending, Seen, Who};
 use pci_command::{NoMemory, Phase};
 use std::alloc::Global;
 
@@ -33,17 +33,9 @@ pub(crate) struct Ground<'a> {
     pub(crate) phases: &'a [Phase],
     pub(crate) times: Times,
     claimants: Vec<Place>,
-    on_buses: OnBuses,
+    on_buses: BusLines,
     /// Of each data phase its line.
     of_phases: Vec<u32>,
-}
-
-/// The lines bus by bus, and of each line its place on its bus.
-#[derive(Drop)]
-struct OnBuses {
-    lines: Vec<u32>,
-    firsts: Vec<u32>,
-    places: Vec<u32>,
 }
 
 /// A request as two errands of one request have it: its plain command, its address (in
@@ -77,7 +69,7 @@ impl<'a> Ground<'a> {
     ) -> Result<Ground<'a>, NoMemory> {
         let board = tree.board();
         let claimants = claimants(alloc, board, lines)?;
-        let on_buses = OnBuses::new(alloc, lines)?;
+        let on_buses = BusLines::new(alloc, lines)?;
         let of_phases = lines_of_phases(alloc, lines, phases.len())?;
         Ok(Ground {
             alloc,
@@ -95,11 +87,7 @@ impl<'a> Ground<'a> {
     pub(crate) fn forget_buses(&mut self) {
         let alloc = self.alloc;
         self.claimants = Vec::new(alloc);
-        self.on_buses = OnBuses {
-            lines: Vec::new(alloc),
-            firsts: Vec::new(alloc),
-            places: Vec::new(alloc),
-        };
+        self.on_buses = BusLines::none(alloc);
     }
 
     /// The line at this place of the log.
@@ -117,11 +105,7 @@ impl<'a> Ground<'a> {
 
     /// The place of the line on its bus.
     pub(crate) fn place(&self, line: u32) -> u32 {
-        self.on_buses
-            .places
-            .get(line as usize)
-            .copied()
-            .unwrap_or(0)
+        self.on_buses.place(line)
     }
 
     /// Who claims the line.
@@ -132,7 +116,7 @@ impl<'a> Ground<'a> {
 
     /// The lines of the bus, in its order.
     pub(crate) fn on_bus(&self, bus: u8) -> &[u32] {
-        self.on_buses.of(bus)
+        self.on_buses.on_bus(bus)
     }
 
     /// The data phases in which the line transferred data, by the first and how many.
@@ -379,66 +363,4 @@ fn lines_of_phases(alloc: Global, lines: &[Seen], count: usize) -> Result<Vec<u3
         }
     }
     Ok(of_phases)
-}
-
-impl OnBuses {
-    fn new(alloc: Global, seen: &[Seen]) -> Result<OnBuses, NoMemory> {
-        let mut firsts = vec![in alloc; 0u32; 257]?;
-        count_buses(&mut firsts, seen);
-        let mut on_buses = OnBuses {
-            lines: vec![in alloc; 0u32; seen.len()]?,
-            places: vec![in alloc; 0u32; seen.len()]?,
-            firsts,
-        };
-        let mut next = Vec::from_slice(alloc, on_buses.firsts.as_slice())?;
-        on_buses.fill(&mut next, seen);
-        Ok(on_buses)
-    }
-
-    /// Each line where the next of its bus stands.
-    fn fill(&mut self, next: &mut Vec<u32>, seen: &[Seen]) {
-        for (line, seen) in seen.iter().enumerate() {
-            let bus = usize::from(seen.bus);
-            let first = self.firsts.get(bus).copied().unwrap_or(0);
-            let place = bump(next, bus);
-            if let Some(slot) = self.lines.get_mut(place as usize) {
-                *slot = number(line);
-            }
-            if let Some(slot) = self.places.get_mut(line) {
-                *slot = place.saturating_sub(first);
-            }
-        }
-    }
-
-    fn of(&self, bus: u8) -> &[u32] {
-        let bus = usize::from(bus);
-        let first = self.firsts.get(bus).copied().unwrap_or(0);
-        let end = self.firsts.get(bus + 1).copied().unwrap_or(0);
-        let lines = self.lines.as_slice();
-        lines.get(first as usize..end as usize).unwrap_or(&[])
-    }
-}
-
-/// Of each bus how many lines the buses before it have.
-fn count_buses(firsts: &mut Vec<u32>, seen: &[Seen]) {
-    for seen in seen {
-        bump(firsts, usize::from(seen.bus) + 1);
-    }
-    let mut total = 0u32;
-    for first in firsts.iter_mut() {
-        total = total.saturating_add(*first);
-        *first = total;
-    }
-}
-
-/// One more in the slot: what stood there.
-pub(crate) fn bump(slots: &mut Vec<u32>, slot: usize) -> u32 {
-    match slots.get_mut(slot) {
-        Some(count) => {
-            let before = *count;
-            *count = before.saturating_add(1);
-            before
-        }
-        None => 0,
-    }
 }

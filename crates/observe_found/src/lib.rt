@@ -10,7 +10,6 @@ mod errands;
 mod found;
 mod ground;
 mod latches;
-mod maybe;
 mod pairing;
 mod pieces;
 mod programs;
@@ -19,5 +18,5 @@ mod streams;
 mod trial;
 mod words;
 
-pub use found::{Counts, LogFound, Note, Unseen, find};
+pub use found::{LogFound, find};
 pub use ground::Times;

@@ -1,7 +1,6 @@
 use crate::ground::{Ground, number};
-use crate::maybe::{MaybeOp, MaybePlace};
 use board_model::Lane;
-use observe_told::{Ending, HeldPhase, Unfound};
+use observe_told::{Ending, HeldPhase, MaybeOp, MaybePlace, Unfound};
 use pci_command::{NoMemory, OpId, Phase};
 use std::alloc::Global;
 use std::collections::{BTreeMap, VecDeque};

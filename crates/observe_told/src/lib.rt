@@ -2,12 +2,18 @@
 //! run.
 #![tactic(auto)]
 
+mod bus_lines;
 mod heads;
+mod maybe;
 mod refusal;
 mod seen;
 mod seen_act;
+mod unseen;
 
+pub use bus_lines::{BusLines, bump};
 pub use heads::{Candidate, Heads};
+pub use maybe::{MaybeOp, MaybePlace};
 pub use refusal::{ActsTold, Brought, HeldPhase, Refused, RefusedLog, Retold, Unfound, WhyNot};
 pub use seen::{Addressed, Ending, LineWord, Log, Seen, Who};
 pub use seen_act::{LineActs, SeenAct};
+pub use unseen::{Counts, Note, Unseen};

@@ -3,23 +3,23 @@ use pci_command::OpId;
 
 /// A place below 2^32 - 1, or none.
 #[derive(Clone, Copy, PartialEq, Eq)]
-pub(crate) struct MaybePlace(u32);
+pub struct MaybePlace(u32);
 
 /// An operation of a program, by its first try, or none.
 #[derive(Clone, Copy, PartialEq, Eq)]
-pub(crate) struct MaybeOp {
+pub struct MaybeOp {
     master: u16,
     index: u16,
 }
 
 impl MaybePlace {
-    pub(crate) const NONE: MaybePlace = MaybePlace(u32::MAX);
+    pub const NONE: MaybePlace = MaybePlace(u32::MAX);
 
-    pub(crate) fn some(place: u32) -> MaybePlace {
+    pub fn some(place: u32) -> MaybePlace {
         MaybePlace(place)
     }
 
-    pub(crate) fn get(self) -> Option<u32> {
+    pub fn get(self) -> Option<u32> {
         if self.0 == u32::MAX {
             None
         } else {
@@ -30,19 +30,19 @@ impl MaybePlace {
 
 impl MaybeOp {
     /// No board has so many masters.
-    pub(crate) const NONE: MaybeOp = MaybeOp {
+    pub const NONE: MaybeOp = MaybeOp {
         master: u16::MAX,
         index: 0,
     };
 
-    pub(crate) fn some(op: OpId) -> MaybeOp {
+    pub fn some(op: OpId) -> MaybeOp {
         MaybeOp {
             master: op.master,
             index: op.index,
         }
     }
 
-    pub(crate) fn get(self) -> Option<OpId> {
+    pub fn get(self) -> Option<OpId> {
         if self.master == u16::MAX {
             return None;
         }
