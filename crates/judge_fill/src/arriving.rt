@@ -40,7 +40,7 @@ fn all_arrive(course: &mut Course, tree: &Tree, whole: &mut Vec<Event>) -> Resul
 
 /// The first arrival in the fixed order happens, which lowers what is left, or nothing is in
 /// flight.
-fn arrive(course: &mut Course, tree: &Tree) -> Option<Event>
+pub fn arrive(course: &mut Course, tree: &Tree) -> Option<Event>
     requires { HasCourse tree.now course.old }
     ensures { (h : List Event) → IsCourse tree.now h course.old →
         ArrivesBy tree.now h course.new result }

@@ -7,5 +7,6 @@ mod arriving;
 mod filling;
 mod unfilled;
 
+pub use arriving::arrive;
 pub use filling::fill;
 pub use unfilled::Unfilled;

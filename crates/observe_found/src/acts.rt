@@ -87,7 +87,7 @@ fn done_by(ground: &Ground, errands: &Errands) -> Result<Vec<Done>, NoMemory> {
         })?;
     }
     for errand in 0..errands.count() {
-        let latch = errands.get(errand).latch;
+        let latch = errands.get(errand).latch();
         if let Some(done) = latch.and_then(|line| done.get_mut(line as usize)) {
             done.is_latch = true;
         }
@@ -119,32 +119,23 @@ impl Deeds<'_> {
             return Ok(());
         };
         if done.is_some_and(|done| done.is_latch) {
-            self.push(line, seen, (op, Step::Latch), acts)?;
+            self.push(line, (op, Step::Latch), acts)?;
         }
         self.end(line, seen, op, acts)
     }
 
-    fn push(
-        &self,
-        line: u32,
-        seen: &Seen,
-        act: (OpId, Step),
-        acts: &mut LineActs,
-    ) -> Result<(), NoMemory> {
+    fn push(&self, line: u32, act: (OpId, Step), acts: &mut LineActs) -> Result<(), NoMemory> {
         let (op, step) = act;
         let place = match step {
             Step::MasterAbort => Place::Nobody,
             _ => self.ground.claimant(line),
         };
-        acts.push(
-            seen,
-            SeenAct {
-                line,
-                op,
-                step,
-                place,
-            },
-        )
+        acts.push(SeenAct {
+            line,
+            op,
+            step,
+            place,
+        })
     }
 
     /// How a delayed request ended.
@@ -152,14 +143,14 @@ impl Deeds<'_> {
         let is_of_lane = matches!(self.ground.claimant(line), Place::Lane(_));
         match seen.ending {
             Ending::Retry => Ok(()),
-            Ending::Nobody => self.push(line, seen, (op, Step::MasterAbort), acts),
+            Ending::Nobody => self.push(line, (op, Step::MasterAbort), acts),
             _ if is_of_lane => {
                 let step = Step::Take(outcome(self.ground, seen));
-                self.push(line, seen, (op, step), acts)
+                self.push(line, (op, step), acts)
             }
             _ if seen.command.is_read() => self.reads(line, seen, op, acts),
-            Ending::Done => self.push(line, seen, (op, Step::Land), acts),
-            Ending::TargetAbort => self.push(line, seen, (op, Step::TargetAbort), acts),
+            Ending::Done => self.push(line, (op, Step::Land), acts),
+            Ending::TargetAbort => self.push(line, (op, Step::TargetAbort), acts),
         }
     }
 
@@ -170,13 +161,13 @@ impl Deeds<'_> {
         let mut op = op;
         for (count, phase) in self.ground.moved(seen).iter().enumerate() {
             if count == 0 || is_of_master {
-                self.push(line, seen, (op, Step::Read(phase.value)), acts)?;
+                self.push(line, (op, Step::Read(phase.value)), acts)?;
                 op.index = op.index.saturating_add(1);
             }
         }
         let has_read = !self.ground.moved(seen).is_empty();
         if seen.ending == Ending::TargetAbort && (is_of_master || !has_read) {
-            self.push(line, seen, (op, Step::TargetAbort), acts)?;
+            self.push(line, (op, Step::TargetAbort), acts)?;
         }
         Ok(())
     }
@@ -192,13 +183,13 @@ impl Deeds<'_> {
             Ending::Done | Ending::TargetAbort => Step::TargetAbort,
         };
         let (first, end) = self.ground.span(line);
-        self.push_ops((line, seen), (first, end), step, acts)?;
+        self.push_ops(line, (first, end), step, acts)?;
         if let Some(lost) = self.streams.lost.get(&line).copied() {
             let end = lost.first.saturating_add(lost.count);
-            self.push_ops((line, seen), (lost.first, end), rest, acts)?;
+            self.push_ops(line, (lost.first, end), rest, acts)?;
         }
         match self.programs.alone.get(&line).copied() {
-            Some(op) => self.push(line, seen, (op, rest), acts),
+            Some(op) => self.push(line, (op, rest), acts),
             None => Ok(()),
         }
     }
@@ -206,7 +197,7 @@ impl Deeds<'_> {
     /// One act for each operation of these data phases.
     fn push_ops(
         &self,
-        of: (u32, &Seen),
+        line: u32,
         span: (u32, u32),
         step: Step,
         acts: &mut LineActs,
@@ -217,7 +208,7 @@ impl Deeds<'_> {
             if op != before
                 && let Some(op) = op
             {
-                self.push(of.0, of.1, (op, step), acts)?;
+                self.push(line, (op, step), acts)?;
             }
             before = op;
         }

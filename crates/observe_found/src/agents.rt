@@ -18,19 +18,10 @@ pub(crate) fn all_masters(ground: &Ground, drafts: Vec<Draft>) -> Result<Vec<Mas
 /// Lists the targets, each with what it opens with.
 pub(crate) fn list_targets(ground: &Ground, targets: &mut Vec<Target>) -> Result<(), Unfound> {
     let further = further_words(ground)?;
-    list_with(ground, further.as_slice(), targets)?;
-    Ok(())
-}
-
-fn list_with(
-    ground: &Ground,
-    further: &[Further],
-    targets: &mut Vec<Target>,
-) -> Result<(), NoMemory> {
     for (place, target) in ground.board.targets.as_slice().iter().enumerate() {
         let place = u16::try_from(place).unwrap_or(u16::MAX);
         if let Some(name) = Name::new(target.name.bytes()) {
-            let own = further_of(further, place);
+            let own = further_of(further.as_slice(), place);
             let openings = openings_of(ground.alloc, target, own)?;
             targets.push(copy_target(ground.alloc, target, name, openings)?)?;
         }
@@ -45,7 +36,7 @@ fn openings_of(
 ) -> Result<Vec<Opening>, NoMemory> {
     let mut all = Vec::from_slice(alloc, target.openings.as_slice())?;
     for further in further {
-        all.push(further.opening)?;
+        all.push(further.opening())?;
     }
     Ok(all)
 }

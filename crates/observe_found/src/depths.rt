@@ -1,21 +1,13 @@
 use crate::errands::Errands;
-use crate::ground::{Ground, rank_of};
-use crate::slots::{Change, Slots, list_changes, slots_of};
+use crate::ground::{Ground, number};
+use crate::slots::{Change, note_changes, overflows, slots_of};
 use crate::streams::Streams;
 use board_model::{Bridge, Lane, Planned};
-use observe_told::{Note, Unfound, bump};
+use observe_told::{Ending, Note, Unfound, bump};
 use pci_command::NoMemory;
 
 /// How many posted writes a bridge may hold one way.
 const MOST_POSTED: u32 = 8;
-
-/// A completion that a lane sent back: the far errand that made it, in the order of the far bus.
-#[derive(Clone, Copy, PartialEq, Eq, PartialOrd, Ord)]
-struct Made {
-    rank: u32,
-    place: u32,
-    far: u32,
-}
 
 /// Lists which completions are discarded: those of far errands that are not the last of their near
 /// ones, and where else more slots were held than there are those that nobody took to the end.
@@ -26,118 +18,61 @@ pub(crate) fn list_discards(
     discards: &mut Vec<Planned>,
     notes: &mut Vec<Note>,
 ) -> Result<(), NoMemory> {
-    let crowded = crowded(ground, lanes, errands)?;
-    let all = all_made(ground, lanes, errands)?;
-    let (crowded, all) = (crowded.as_slice(), all.as_slice());
-    list_discarded(lanes, errands, crowded, all, discards, notes)
-}
-
-/// Of these completions, where those lanes are crowded that are marked.
-fn list_discarded(
-    lanes: &[Lane],
-    errands: &Errands,
-    crowded: &[bool],
-    all: &[Made],
-    discards: &mut Vec<Planned>,
-    notes: &mut Vec<Note>,
-) -> Result<(), NoMemory> {
-    let (mut rank, mut count) = (u32::MAX, 0u32);
-    for made in all {
-        count = if made.rank == rank {
-            count.saturating_add(1)
-        } else {
-            1
-        };
-        rank = made.rank;
-        let is_crowded = crowded.get(rank as usize).copied().unwrap_or(false);
-        if is_discarded(errands, made.far, is_crowded) {
-            let Lane { bus, up } = lanes.get(rank as usize).copied().unwrap_or_default();
-            discards.push(Planned {
-                bus,
-                up: !up,
-                count,
-            })?;
-            if let (Some(line), Some(op)) = (errands.get(made.far).ended, errands.op_of(made.far)) {
-                notes.push(Note::Discarded {
-                    bridge: bus,
-                    op,
-                    line,
-                })?;
+    for lane in lanes {
+        let is_crowded = is_crowded(ground, *lane, errands)?;
+        let Lane { bus, up } = *lane;
+        let lines = ground.driven_by(*lane).iter();
+        let made = lines.filter_map(|line| made_by(ground, errands, *line));
+        for (before, far) in made.enumerate() {
+            if is_discarded(errands, far, is_crowded) {
+                let count = number(before).saturating_add(1);
+                let up = !up;
+                discards.push(Planned { bus, up, count })?;
+                if let (Some(op), Some(line)) = (errands.op_of(far), errands.get(far).ended()) {
+                    let bridge = bus;
+                    notes.push(Note::Discarded { bridge, op, line })?;
+                }
             }
         }
     }
     Ok(())
 }
 
+/// The far errand that the line of its lane ended, and so made a completion for.
+fn made_by(ground: &Ground, errands: &Errands, line: u32) -> Option<u32> {
+    if ground.seen(line)?.ending != Ending::Retry {
+        errands.of_line(line)
+    } else {
+        None
+    }
+}
+
 fn is_discarded(errands: &Errands, far: u32, is_crowded: bool) -> bool {
-    match errands.get(far).near {
+    match errands.get(far).near() {
         Some(near) => {
             let near = errands.get(near);
-            near.last_far != Some(far) || is_crowded && near.ended.is_none()
+            near.last_far() != Some(far) || is_crowded && near.ended().is_none()
         }
         None => false,
     }
 }
 
-fn all_made(ground: &Ground, lanes: &[Lane], errands: &Errands) -> Result<Vec<Made>, NoMemory> {
-    let mut all = Vec::new(ground.alloc);
-    for far in 0..errands.count() {
-        let errand = errands.get(far);
-        let rank = rank_of(lanes, errands.driver(ground, &errand));
-        if let (Some(rank), Some(ended)) = (rank, errand.ended) {
-            all.push(Made {
-                rank,
-                place: ground.place(ended),
-                far,
-            })?;
+/// Whether at some latch more slots of the lane were held than there are.
+fn is_crowded(ground: &Ground, lane: Lane, errands: &Errands) -> Result<bool, NoMemory> {
+    let lines = ground.on_bus(ground.start_of(lane)).len();
+    let mut changes = vec![in ground.alloc; Change::default(); lines]?;
+    for line in ground.driven_by(lane) {
+        if let Some(far) = errands.begun_at(*line) {
+            note_changes(ground, errands, far, &mut changes);
         }
     }
-    all.sort_unstable();
-    Ok(all)
-}
-
-/// Of each lane whether at some latch more slots were held than there are.
-fn crowded(ground: &Ground, lanes: &[Lane], errands: &Errands) -> Result<Vec<bool>, NoMemory> {
-    let mut changes = Vec::new(ground.alloc);
-    list_all_changes(ground, lanes, errands, &mut changes)?;
-    changes.sort_unstable();
-    crowded_by(ground, lanes, changes.as_slice())
-}
-
-fn list_all_changes(
-    ground: &Ground,
-    lanes: &[Lane],
-    errands: &Errands,
-    changes: &mut Vec<Change>,
-) -> Result<(), NoMemory> {
-    for far in 0..errands.count() {
-        let errand = errands.get(far);
-        if let Some(rank) = rank_of(lanes, errands.driver(ground, &errand)) {
-            list_changes(ground, errands, rank, far, changes)?;
-        }
-    }
-    Ok(())
-}
-
-fn crowded_by(ground: &Ground, lanes: &[Lane], changes: &[Change]) -> Result<Vec<bool>, NoMemory> {
-    let mut crowded = vec![in ground.alloc; false; lanes.len()]?;
-    let mut slots = Slots::default();
-    for change in changes {
-        slots = slots.after(change);
-        let lane = lanes.get(slots.rank as usize).copied().unwrap_or_default();
-        if slots.held > slots_of(ground, lane) {
-            if let Some(crowded) = crowded.get_mut(slots.rank as usize) {
-                *crowded = true;
-            }
-        }
-    }
-    Ok(crowded)
+    Ok(overflows(changes.as_slice(), slots_of(ground, lane)))
 }
 
 /// What a lane held while its near bus is gone through.
 #[derive(Drop)]
 struct Held {
-    /// How many lines of the far bus were looked at.
+    /// How many lines that the lane drives were looked at.
     far: usize,
     /// Of each line of the log how many of its pieces left.
     left_of: Vec<u32>,
@@ -223,8 +158,8 @@ impl Held {
         self.pieces = 0;
         self.bursts = 0;
         self.most = 0;
-        for line in ground.on_bus(ground.start_of(lane)) {
-            if ground.brings(*line, lane) {
+        for line in ground.claimed_by(lane) {
+            if ground.brings(*line) {
                 self.leave_until(ground, streams, lane, ground.end(*line));
                 if self.burst_held() > u32::from(posted) {
                     return Ok(0);
@@ -256,13 +191,13 @@ impl Held {
 
     /// What lines of the far bus took away that began by this time.
     fn leave_until(&mut self, ground: &Ground, streams: &Streams, lane: Lane, time: u64) {
-        let lines = ground.on_bus(ground.end_of(lane));
+        let lines = ground.driven_by(lane);
         for line in lines.get(self.far..).unwrap_or(&[]) {
             if ground.start(*line) > time {
                 break;
             }
             self.far = self.far.saturating_add(1);
-            if ground.takes_away(*line, lane) {
+            if ground.takes_away(*line) {
                 self.leave(ground, streams, *line);
             }
         }

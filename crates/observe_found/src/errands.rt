@@ -1,45 +1,28 @@
 use crate::ground::{Ground, NO_TIME, Wanted, number};
-use board_model::{Lane, Place};
 use observe_told::{Ending, MaybeOp, MaybePlace, Seen, Who, bump};
 use pci_command::{NoMemory, OpId};
 use std::alloc::Global;
 use std::collections::HashMap;
+use std::collections::hash_map::Entry;
 
 /// How many lanes a way has at most.
 const MOST_LANES: u32 = 64;
 
 /// All that one request of one initiator did on a bus: some Retries, and at most one end. An
 /// initiator that has no data must ask again for the same.
-#[derive(Clone, Copy, Default)]
+#[derive(Clone, Copy)]
 pub(crate) struct Errand {
-    /// Its lines among those of all errands.
-    first: u32,
-    count: u32,
-    /// The line that ended it.
-    pub(crate) ended: Option<u32>,
-    /// The line at which it first had an effect: its first latch, or its end.
-    pub(crate) shown: Option<u32>,
-    /// By when that was, seen by all that had to wait for it.
-    pub(crate) deadline: u64,
-    /// From when on it can have ended, seen by all that it had to wait for.
-    pub(crate) release: u64,
-    /// Of one that a lane drives: the errand that the lane claimed and for which this was made, the
-    /// one that was made for it before, and the line that latched it.
-    pub(crate) near: Option<u32>,
-    pub(crate) before: Option<u32>,
-    pub(crate) latch: Option<u32>,
-    /// Of one that a lane claims: the last that was made for it.
-    pub(crate) last_far: Option<u32>,
-    /// Whose operation it is.
-    pub(crate) op: Option<OpId>,
+    kept: Kept,
+    /// Behind the last of its lines among those of all errands.
+    end: u32,
 }
 
-/// What is kept of an errand: the same in fewer bytes. Its lines end where those of the next begin.
+/// What is kept of an errand, of which there are many. Its lines end where those of the next begin.
 #[derive(Clone, Copy)]
 struct Kept {
     deadline: u64,
     release: u64,
-    /// While lines are sorted, how many it has.
+    /// Its first line among those of all errands. While lines are sorted, how many it has.
     first: u32,
     ended: MaybePlace,
     shown: MaybePlace,
@@ -61,44 +44,79 @@ pub(crate) struct Errands {
 /// By what a line is known as one of an errand.
 #[derive(Clone, Copy, PartialEq, Eq, Hash)]
 struct Asked {
-    bus: u8,
-    master: Option<u16>,
-    lane: Option<(u8, bool)>,
     wanted: Wanted,
+    bus: u8,
+    asker: Asker,
+}
+
+/// Who asks: a master, or the lane to this bus.
+#[derive(Clone, Copy, PartialEq, Eq, Hash)]
+enum Asker {
+    Master(u16),
+    Lane(u8, bool),
 }
 
 impl Kept {
     /// No line yet.
-    fn new() -> Kept {
-        Kept {
-            deadline: NO_TIME,
-            release: 0,
-            first: 0,
-            ended: MaybePlace::NONE,
-            shown: MaybePlace::NONE,
-            near: MaybePlace::NONE,
-            before: MaybePlace::NONE,
-            latch: MaybePlace::NONE,
-            last_far: MaybePlace::NONE,
-            op: MaybeOp::NONE,
-        }
+    const NEW: Kept = Kept {
+        deadline: NO_TIME,
+        release: 0,
+        first: 0,
+        ended: MaybePlace::NONE,
+        shown: MaybePlace::NONE,
+        near: MaybePlace::NONE,
+        before: MaybePlace::NONE,
+        latch: MaybePlace::NONE,
+        last_far: MaybePlace::NONE,
+        op: MaybeOp::NONE,
+    };
+}
+
+impl Errand {
+    /// One of no line.
+    pub(crate) const NONE: Errand = Errand {
+        kept: Kept::NEW,
+        end: 0,
+    };
+
+    /// The line that ended it.
+    pub(crate) fn ended(&self) -> Option<u32> {
+        self.kept.ended.get()
     }
 
-    /// The same, where its lines end there.
-    fn errand(&self, end: u32) -> Errand {
-        Errand {
-            first: self.first,
-            count: end.saturating_sub(self.first),
-            ended: self.ended.get(),
-            shown: self.shown.get(),
-            deadline: self.deadline,
-            release: self.release,
-            near: self.near.get(),
-            before: self.before.get(),
-            latch: self.latch.get(),
-            last_far: self.last_far.get(),
-            op: self.op.get(),
-        }
+    /// The line at which it first had an effect: its first latch, or its end.
+    pub(crate) fn shown(&self) -> Option<u32> {
+        self.kept.shown.get()
+    }
+
+    /// By when that was, seen by all that had to wait for it.
+    pub(crate) fn deadline(&self) -> u64 {
+        self.kept.deadline
+    }
+
+    /// From when on it can have ended, seen by all that it had to wait for.
+    pub(crate) fn release(&self) -> u64 {
+        self.kept.release
+    }
+
+    /// Of one that a lane drives: the errand that the lane claimed and for which this was made.
+    pub(crate) fn near(&self) -> Option<u32> {
+        self.kept.near.get()
+    }
+
+    /// The one that was made for that before.
+    pub(crate) fn before(&self) -> Option<u32> {
+        self.kept.before.get()
+    }
+
+    /// The line that latched it.
+    pub(crate) fn latch(&self) -> Option<u32> {
+        self.kept.latch.get()
+    }
+
+    /// Of one that a lane claims: the last that was made for it.
+    pub(crate) fn last_far(&self) -> Option<u32> {
+        self.kept.last_far.get()
     }
 }
 
@@ -146,11 +164,35 @@ impl Errands {
         if seen.is_posted() {
             return Ok(MaybePlace::NONE);
         }
-        let asked = key_of(ground, seen);
-        let errand = match open.get(&asked).copied() {
-            Some(errand) => errand,
-            None => self.begin(open, asked)?,
+        let ends = seen.ending != Ending::Retry;
+        let errand = match open.entry(key_of(ground, seen))? {
+            Entry::Occupied(entry) => {
+                let errand = *entry.get();
+                if ends {
+                    entry.remove();
+                }
+                errand
+            }
+            Entry::Vacant(entry) => {
+                let errand = self.begin()?;
+                if !ends {
+                    entry.insert(errand);
+                }
+                errand
+            }
         };
+        self.lengthen(errand, line, seen);
+        Ok(MaybePlace::some(errand))
+    }
+
+    fn begin(&mut self) -> Result<u32, NoMemory> {
+        let errand = number(self.all.len());
+        self.all.push(Kept::NEW)?;
+        Ok(errand)
+    }
+
+    /// The line is the last of the errand so far.
+    fn lengthen(&mut self, errand: u32, line: u32, seen: &Seen) {
         if let Some(errand) = self.all.get_mut(errand as usize) {
             errand.first = errand.first.saturating_add(1);
             if seen.ending != Ending::Retry {
@@ -158,17 +200,8 @@ impl Errands {
                 errand.shown = MaybePlace::some(line);
                 errand.deadline = seen.end;
                 errand.release = seen.start;
-                open.remove(&asked);
             }
         }
-        Ok(MaybePlace::some(errand))
-    }
-
-    fn begin(&mut self, open: &mut HashMap<Asked, u32>, asked: Asked) -> Result<u32, NoMemory> {
-        let errand = number(self.all.len());
-        self.all.push(Kept::new())?;
-        open.insert(asked, errand)?;
-        Ok(errand)
     }
 
     /// Of each errand where its lines begin, and room for all of them.
@@ -204,8 +237,11 @@ impl Errands {
     /// The errand of this number.
     pub(crate) fn get(&self, errand: u32) -> Errand {
         match self.all.get(errand as usize) {
-            Some(kept) => kept.errand(self.end_of(errand)),
-            None => Errand::default(),
+            Some(kept) => Errand {
+                kept: *kept,
+                end: self.end_of(errand),
+            },
+            None => Errand::NONE,
         }
     }
 
@@ -225,31 +261,27 @@ impl Errands {
 
     /// The lines of an errand, in the order of its bus: one at least.
     pub(crate) fn lines_of(&self, errand: &Errand) -> &[u32] {
-        let end = errand.first.saturating_add(errand.count);
         let lines = self.lines.as_slice();
         lines
-            .get(errand.first as usize..end as usize)
+            .get(errand.kept.first as usize..errand.end as usize)
             .unwrap_or(&[])
     }
 
     /// Its first line.
     pub(crate) fn first_line(&self, errand: &Errand) -> u32 {
-        self.lines_of(errand).first().copied().unwrap_or(0)
+        let first = self.lines.get(errand.kept.first as usize);
+        first.copied().unwrap_or(0)
     }
 
-    /// The lane that drives it, if it is none of a master.
-    pub(crate) fn driver(&self, ground: &Ground, errand: &Errand) -> Option<Lane> {
-        match ground.seen(self.first_line(errand))?.who {
-            Who::Lane(lane) => Some(lane),
-            Who::Master(_) => None,
-        }
-    }
-
-    /// The lane that claims it, where one does.
-    pub(crate) fn claiming_lane(&self, ground: &Ground, errand: &Errand) -> Option<Lane> {
-        match ground.claimant(self.first_line(errand)) {
-            Place::Lane(lane) => Some(lane),
-            Place::Target(_) | Place::Header(_) | Place::Nobody => None,
+    /// The errand that this line began.
+    pub(crate) fn begun_at(&self, line: u32) -> Option<u32> {
+        let errand = self.of_line(line)?;
+        let first = self.all.get(errand as usize)?.first;
+        let began = self.lines.get(first as usize).copied();
+        if began == Some(line) {
+            Some(errand)
+        } else {
+            None
         }
     }
 
@@ -260,17 +292,17 @@ impl Errands {
 
     /// How long it was open: one that did not end is open for ever.
     pub(crate) fn open_until(&self, ground: &Ground, errand: &Errand) -> u64 {
-        errand.ended.map_or(NO_TIME, |line| ground.end(line))
+        errand.ended().map_or(NO_TIME, |line| ground.end(line))
     }
 
     /// Whose operation it is: that of a far errand is that of the near one.
     pub(crate) fn op_of(&self, errand: u32) -> Option<OpId> {
-        let mut errand = self.get(errand);
+        let mut kept = self.all.get(errand as usize)?;
         for _ in 0..MOST_LANES {
-            if errand.op.is_some() {
-                return errand.op;
+            if let Some(op) = kept.op.get() {
+                return Some(op);
             }
-            errand = self.get(errand.near?);
+            kept = self.all.get(kept.near.get()? as usize)?;
         }
         None
     }
@@ -351,14 +383,13 @@ impl Errands {
 }
 
 fn key_of(ground: &Ground, seen: &Seen) -> Asked {
-    let (master, lane) = match seen.who {
-        Who::Master(master) => (Some(master), None),
-        Who::Lane(lane) => (None, Some((lane.bus, lane.up))),
+    let asker = match seen.who {
+        Who::Master(master) => Asker::Master(master),
+        Who::Lane(lane) => Asker::Lane(lane.bus, lane.up),
     };
     Asked {
-        bus: seen.bus,
-        master,
-        lane,
         wanted: ground.driven(seen),
+        bus: seen.bus,
+        asker,
     }
 }

@@ -98,7 +98,7 @@ impl Sought {
             acts,
             notes,
         } = self;
-        let counts = counts_of(ground, acts.lines.as_slice());
+        let counts = counts_of(ground, &acts);
         LogFound {
             board: Board {
                 bridges: List::from_vec(bridges),
@@ -125,7 +125,7 @@ fn note_rest(ground: &Ground, errands: &Errands, notes: &mut Vec<Note>) -> Resul
         let Some(seen) = ground.seen(line) else {
             continue;
         };
-        match errand.ended {
+        match errand.ended() {
             None if matches!(seen.who, Who::Master(_)) => {
                 let asked = number(errands.lines_of(&errand).len());
                 notes.push(Note::NotEnded { op, line, asked })?;
@@ -157,23 +157,25 @@ fn not_looked_at(ground: &Ground, line: u32) -> u32 {
     }
 }
 
-/// Counts what acts there are, by the places of their lines. A Retry with an effect has one, the
-/// latch.
-fn counts_of(ground: &Ground, acts: &[u32]) -> Counts {
-    let retries = ground.lines.iter().filter(|seen| is_retry(seen)).count();
-    let latches = acts.iter().filter(|line| is_latch(ground, **line)).count();
+/// Counts what acts there are. A Retry with an effect has one, the latch.
+fn counts_of(ground: &Ground, acts: &LineActs) -> Counts {
+    let retries = ground
+        .lines
+        .iter()
+        .filter(|seen| seen.ending == Ending::Retry)
+        .count();
+    let acts_of_retries = (0..acts.count()).filter(|place| is_latch(ground, acts, *place));
+    let latches = acts_of_retries.count();
     Counts {
         lines: number(ground.lines.len()),
-        acts: number(acts.len()),
+        acts: number(acts.count()),
         fruitless: number(retries).saturating_sub(number(latches)),
     }
 }
 
-fn is_retry(seen: &Seen) -> bool {
-    seen.ending == Ending::Retry
-}
-
-/// Whether an act of this line is of one that ended with Retry.
-fn is_latch(ground: &Ground, line: u32) -> bool {
-    ground.seen(line).is_some_and(is_retry)
+/// Whether the act at this place is of a line that ended with Retry.
+fn is_latch(ground: &Ground, acts: &LineActs, place: usize) -> bool {
+    let line = acts.get(place).map(|act| act.line);
+    line.and_then(|line| ground.seen(line))
+        .is_some_and(|seen| seen.ending == Ending::Retry)
 }

@@ -1,6 +1,7 @@
 ghost use Rattle.std.specs.Prelude.{IsTrue};
 ghost use Rattle.board_model.specs.WellFormed.{is_well_formed};
 
+use crate::lane_lines::LaneLines;
 use board_model::{Board, Lane, Place, bridge_to, end_of, primary_of};
 use board_tree::Tree;
 use observe_told::{Addressed, BusLines, Ending, Seen, Who};
@@ -34,6 +35,8 @@ pub(crate) struct Ground<'a> {
     pub(crate) times: Times,
     claimants: Vec<Place>,
     on_buses: BusLines,
+    driven: LaneLines,
+    claimed: LaneLines,
     /// Of each data phase its line.
     of_phases: Vec<u32>,
 }
@@ -53,12 +56,6 @@ pub(crate) fn number(count: usize) -> u32 {
     u32::try_from(count).unwrap_or(u32::MAX)
 }
 
-/// The place of the lane among these.
-pub(crate) fn rank_of(lanes: &[Lane], lane: Option<Lane>) -> Option<u32> {
-    let lane = lane?;
-    lanes.iter().position(|found| *found == lane).map(number)
-}
-
 impl<'a> Ground<'a> {
     pub(crate) fn new(
         alloc: Global,
@@ -71,7 +68,7 @@ impl<'a> Ground<'a> {
         let claimants = claimants(alloc, board, lines)?;
         let on_buses = BusLines::new(alloc, lines)?;
         let of_phases = lines_of_phases(alloc, lines, phases.len())?;
-        Ok(Ground {
+        let mut ground = Ground {
             alloc,
             board,
             lines,
@@ -79,8 +76,24 @@ impl<'a> Ground<'a> {
             times,
             claimants,
             on_buses,
+            driven: LaneLines::new(alloc),
+            claimed: LaneLines::new(alloc),
             of_phases,
-        })
+        };
+        ground.list_by_lanes()?;
+        Ok(ground)
+    }
+
+    fn list_by_lanes(&mut self) -> Result<(), NoMemory> {
+        for (line, seen) in self.lines.iter().enumerate() {
+            if let Who::Lane(lane) = seen.who {
+                self.driven.add(self.alloc, lane, number(line))?;
+            }
+            if let Some(Place::Lane(lane)) = self.claimants.get(line) {
+                self.claimed.add(self.alloc, *lane, number(line))?;
+            }
+        }
+        Ok(())
     }
 
     /// Who claims a line, and which lines stand on which bus, is not asked any more.
@@ -88,6 +101,8 @@ impl<'a> Ground<'a> {
         let alloc = self.alloc;
         self.claimants = Vec::new(alloc);
         self.on_buses = BusLines::none(alloc);
+        self.driven = LaneLines::new(alloc);
+        self.claimed = LaneLines::new(alloc);
     }
 
     /// The line at this place of the log.
@@ -117,6 +132,16 @@ impl<'a> Ground<'a> {
     /// The lines of the bus, in its order.
     pub(crate) fn on_bus(&self, bus: u8) -> &[u32] {
         self.on_buses.on_bus(bus)
+    }
+
+    /// The lines that the lane drives, in the order of the bus where it ends.
+    pub(crate) fn driven_by(&self, lane: Lane) -> &[u32] {
+        self.driven.of(lane)
+    }
+
+    /// The lines that the lane claims, in the order of the bus where it begins.
+    pub(crate) fn claimed_by(&self, lane: Lane) -> &[u32] {
+        self.claimed.of(lane)
     }
 
     /// The data phases in which the line transferred data, by the first and how many.
@@ -292,26 +317,16 @@ impl<'a> Ground<'a> {
         end_of(self.board, lane)
     }
 
-    /// Whether the line is a posted write that the lane took.
-    pub(crate) fn brings(&self, line: u32, lane: Lane) -> bool {
-        match self.seen(line) {
-            Some(seen) => {
-                seen.is_posted()
-                    && seen.ending == Ending::Done
-                    && self.claimant(line) == Place::Lane(lane)
-            }
-            None => false,
-        }
+    /// Whether the line, which a lane claims, is a posted write that it took.
+    pub(crate) fn brings(&self, line: u32) -> bool {
+        self.seen(line)
+            .is_some_and(|seen| seen.is_posted() && seen.ending == Ending::Done)
     }
 
-    /// Whether the line is a posted write that the lane drove, and that was not retried.
-    pub(crate) fn takes_away(&self, line: u32, lane: Lane) -> bool {
-        match self.seen(line) {
-            Some(seen) => {
-                seen.is_posted() && seen.ending != Ending::Retry && seen.who == Who::Lane(lane)
-            }
-            None => false,
-        }
+    /// Whether the line, which a lane drives, is a posted write that was not retried.
+    pub(crate) fn takes_away(&self, line: u32) -> bool {
+        self.seen(line)
+            .is_some_and(|seen| seen.is_posted() && seen.ending != Ending::Retry)
     }
 }
 

@@ -39,9 +39,9 @@ impl Sides<'_> {
     /// The place from which on a latch for it may stand, where this far errand was made for the
     /// near one before: behind its end, since its completion was discarded.
     pub(crate) fn low_place(&self, errands: &Errands, near: &Errand, before: Option<u32>) -> u32 {
-        let before = before.map_or(Errand::default(), |before| errands.get(before));
-        match (before.ended, self.ground.seen(errands.first_line(near))) {
-            (Some(_ended), Some(seen)) => self.ground.first_behind(seen.bus, before.release),
+        let before = before.map_or(Errand::NONE, |before| errands.get(before));
+        match (before.ended(), self.ground.seen(errands.first_line(near))) {
+            (Some(_ended), Some(seen)) => self.ground.first_behind(seen.bus, before.release()),
             _ => 0,
         }
     }
@@ -54,7 +54,7 @@ impl Sides<'_> {
     }
 
     fn left_before(&self, far: &Errand) -> u32 {
-        match far.shown {
+        match far.shown() {
             Some(line) => self.stream.left_before(self.ground.place(line)),
             None => 0,
         }
@@ -155,10 +155,10 @@ impl Sides<'_> {
         bound: u32,
         strictness: Strictness,
     ) -> Option<u32> {
-        let near = errands.get(far.near?);
-        let low = self.low_place(errands, &near, far.before);
+        let near = errands.get(far.near()?);
+        let low = self.low_place(errands, &near, far.before());
         let high = bound.min(self.high_place(far));
-        match self.last_in_time(errands, &near, (low, high), far.deadline) {
+        match self.last_in_time(errands, &near, (low, high), far.deadline()) {
             Some(line) if low <= self.ground.place(line) => Some(line),
             _ if strictness != Strictness::Loose => None,
             _ => Some(self.latch_behind_writes(errands, far, &near, low, bound)),
@@ -195,13 +195,13 @@ impl Sides<'_> {
         low: u32,
         bound: u32,
     ) -> u32 {
-        let last = self.last_line(errands, near, bound, far.deadline);
+        let last = self.last_line(errands, near, bound, far.deadline());
         let first = self.first_line(errands, near, low);
         let (first, last) = match (first, last) {
             (Some(first), Some(last)) if first <= last => (first, last),
             _ => {
                 let first = errands.first_line(near);
-                let last = self.last_line(errands, near, NO_PLACE, far.deadline);
+                let last = self.last_line(errands, near, NO_PLACE, far.deadline());
                 (first, last.unwrap_or(first))
             }
         };
@@ -220,10 +220,10 @@ impl Sides<'_> {
     /// A near errand first had an effect at its first latch.
     fn note_shown(&self, errands: &mut Errands, far: u32) {
         let given = errands.get(far);
-        let (Some(near), Some(latch), None) = (given.near, given.latch, given.before) else {
+        let (Some(near), Some(latch), None) = (given.near(), given.latch(), given.before()) else {
             return;
         };
-        let deadline = self.ground.end(latch).min(given.deadline);
+        let deadline = self.ground.end(latch).min(given.deadline());
         errands.show(near, latch, deadline);
     }
 
@@ -238,7 +238,7 @@ impl Sides<'_> {
     }
 
     fn fits(&self, errands: &Errands, near: &Errand) -> bool {
-        match (near.ended, self.made(errands, near)) {
+        match (near.ended(), self.made(errands, near)) {
             (None, _) => true,
             (Some(_), None) => false,
             (Some(ended), Some(made)) => self.same_outcome(made, ended),
@@ -247,7 +247,7 @@ impl Sides<'_> {
 
     /// The line of the far bus that made the completion of the near errand.
     fn made(&self, errands: &Errands, near: &Errand) -> Option<u32> {
-        errands.get(near.last_far?).ended
+        errands.get(near.last_far()?).ended()
     }
 
     /// Whether it took a read's completion while a posted write that came before that was there.
@@ -256,7 +256,7 @@ impl Sides<'_> {
             .ground
             .seen(errands.first_line(near))
             .is_some_and(|seen| seen.command.is_read());
-        match (near.ended, self.made(errands, near)) {
+        match (near.ended(), self.made(errands, near)) {
             (Some(ended), Some(made)) if reads => {
                 let brought = self.back.brought_before(self.ground.place(made));
                 self.back.left_before(self.ground.place(ended)) < brought
@@ -288,10 +288,10 @@ impl Sides<'_> {
 /// A near errand cannot have ended before the completion that it took was there.
 fn note_release(errands: &mut Errands, near: u32) {
     let given = errands.get(near);
-    let (Some(_ended), Some(far)) = (given.ended, given.last_far) else {
+    let (Some(_ended), Some(far)) = (given.ended(), given.last_far()) else {
         return;
     };
-    let release = given.release.max(errands.get(far).release);
+    let release = given.release().max(errands.get(far).release());
     errands.release(near, release);
 }
 

@@ -9,6 +9,7 @@ mod depths;
 mod errands;
 mod found;
 mod ground;
+mod lane_lines;
 mod latches;
 mod pairing;
 mod pieces;

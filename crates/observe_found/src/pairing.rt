@@ -1,10 +1,10 @@
 use crate::choices::{Choices, PartOf};
 use crate::errands::Errands;
-use crate::ground::{Ground, NO_TIME, Wanted, number, rank_of};
+use crate::ground::{Ground, NO_TIME, Wanted, number};
 use crate::latches::{Sides, Strictness};
 use crate::slots::Held;
 use crate::streams::Streams;
-use crate::trial::Trial;
+use crate::trial::{Lists, Trial};
 use board_model::{Lane, bridge_to};
 use observe_told::Unfound;
 use pci_command::NoMemory;
@@ -26,12 +26,12 @@ struct Entry {
 }
 
 /// By what the entries of a lane are sorted: request by request, by when they began.
-#[derive(Clone, Copy)]
+#[derive(Clone, Copy, PartialEq, Eq, PartialOrd, Ord)]
 struct Keyed {
     wanted: Wanted,
     start: u64,
-    errand: u32,
     is_far: bool,
+    errand: u32,
 }
 
 /// Errands of one request at one lane that are open together: behind them nothing of it is open.
@@ -88,90 +88,67 @@ pub(crate) fn pair(
     all.settle(errands, &mut choices)
 }
 
-/// Lane by lane, and there as they are sorted. They are sorted by lanes first, so that what they are
-/// sorted by stands there of one lane at a time.
+/// Lane by lane, and there as they are sorted. What they are sorted by stands there of one lane at
+/// a time.
 fn entries(ground: &Ground, lanes: &[Lane], errands: &Errands) -> Result<Vec<Entry>, NoMemory> {
     let mut entries = Vec::new(ground.alloc);
-    list_entries(ground, lanes, errands, &mut entries)?;
-    entries.sort_unstable_by_key(|entry| (entry.rank, entry.errand, entry.is_far));
-    let mut end = 0usize;
     let mut request = 0u32;
-    for rank in 0..lanes.len() {
-        let first = end;
-        end = end_of_lane(entries.as_slice(), rank);
-        if let Some(own) = entries.as_mut_slice().get_mut(first..end) {
-            request = sort_lane(ground, errands, own, request)?;
-        }
+    for (rank, lane) in lanes.iter().enumerate() {
+        let keyed = keyed_of(ground, *lane, errands)?;
+        let rank = u16::try_from(rank).unwrap_or(u16::MAX);
+        request = list_lane(rank, keyed.as_slice(), request, &mut entries)?;
     }
     Ok(entries)
 }
 
-/// Behind the last entry of the lane of this rank.
-fn end_of_lane(entries: &[Entry], rank: usize) -> usize {
-    entries.partition_point(|entry| usize::from(entry.rank) <= rank)
-}
-
-fn list_entries(
-    ground: &Ground,
-    lanes: &[Lane],
-    errands: &Errands,
-    entries: &mut Vec<Entry>,
-) -> Result<(), NoMemory> {
-    for errand in 0..errands.count() {
-        let found = errands.get(errand);
-        if let Some(rank) = rank_of(lanes, errands.driver(ground, &found)) {
-            entries.push(entry_of(rank, true, errand))?;
-        }
-        if let Some(rank) = rank_of(lanes, errands.claiming_lane(ground, &found)) {
-            entries.push(entry_of(rank, false, errand))?;
+/// The entries of a lane with what they are sorted by, as they are sorted.
+fn keyed_of(ground: &Ground, lane: Lane, errands: &Errands) -> Result<Vec<Keyed>, NoMemory> {
+    let mut keyed = Vec::new(ground.alloc);
+    for line in ground.claimed_by(lane) {
+        if let Some(near) = errands.begun_at(*line) {
+            keyed.push(keyed_by(ground, *line, near, false))?;
         }
     }
-    Ok(())
+    for line in ground.driven_by(lane) {
+        if let Some(far) = errands.begun_at(*line) {
+            keyed.push(keyed_by(ground, *line, far, true))?;
+        }
+    }
+    keyed.sort_unstable();
+    Ok(keyed)
 }
 
-fn entry_of(rank: u32, is_far: bool, errand: u32) -> Entry {
-    Entry {
-        errand,
-        request: 0,
-        rank: u16::try_from(rank).unwrap_or(u16::MAX),
+fn keyed_by(ground: &Ground, line: u32, errand: u32, is_far: bool) -> Keyed {
+    Keyed {
+        wanted: wanted(ground, line),
+        start: ground.start(line),
         is_far,
+        errand,
     }
 }
 
-/// Sorts the entries of a lane, whose requests are numbered from there on: the number behind them.
-fn sort_lane(
-    ground: &Ground,
-    errands: &Errands,
-    own: &mut [Entry],
+/// Lists the entries of a lane, whose requests are numbered from there on: the number behind them.
+fn list_lane(
+    rank: u16,
+    keyed: &[Keyed],
     first: u32,
+    entries: &mut Vec<Entry>,
 ) -> Result<u32, NoMemory> {
-    let mut keyed = Vec::with_capacity(ground.alloc, own.len())?;
-    for entry in own.iter() {
-        keyed.push(keyed_by(ground, errands, entry))?;
-    }
-    keyed.sort_unstable_by_key(|keyed| keyed.turn());
     let mut request = first;
     let mut before = Wanted::default();
-    for (entry, keyed) in own.iter_mut().zip(keyed.iter()) {
+    for keyed in keyed {
         if keyed.wanted != before {
             request = request.saturating_add(1);
             before = keyed.wanted;
         }
-        entry.errand = keyed.errand;
-        entry.is_far = keyed.is_far;
-        entry.request = request;
+        entries.push(Entry {
+            errand: keyed.errand,
+            request,
+            rank,
+            is_far: keyed.is_far,
+        })?;
     }
     Ok(request.saturating_add(1))
-}
-
-fn keyed_by(ground: &Ground, errands: &Errands, entry: &Entry) -> Keyed {
-    let found = errands.get(entry.errand);
-    Keyed {
-        wanted: wanted(ground, errands.first_line(&found)),
-        start: errands.start(ground, &found),
-        errand: entry.errand,
-        is_far: entry.is_far,
-    }
 }
 
 /// Of each errand of a lane the first time at which it can have been made for somebody.
@@ -185,7 +162,7 @@ fn asked_times(
     for (place, entry) in entries.iter().enumerate() {
         if place == end {
             let behind = entries.get(place..).unwrap_or(&[]);
-            let count = behind.partition_point(|other| other.is_with(entry));
+            let count = behind.partition_point(|other| other.request == entry.request);
             end = place.saturating_add(count);
             let same = behind.get(..count).unwrap_or(&[]);
             note_asked(ground, same, errands, &mut asked)?;
@@ -204,7 +181,7 @@ fn note_asked(
 ) -> Result<(), NoMemory> {
     let reaches = reaches_of(ground, same, errands)?;
     for far in same.iter().filter(|entry| entry.is_far) {
-        let ended = errands.get(far.errand).ended;
+        let ended = errands.get(far.errand).ended();
         let ended = ended.map_or(NO_TIME, |line| ground.start(line));
         let at = reaches.as_slice().partition_point(|reach| *reach < ended);
         let near = same.get(at).map(|near| errands.get(near.errand));
@@ -234,19 +211,6 @@ fn wanted(ground: &Ground, line: u32) -> Wanted {
         .map_or(Wanted::default(), |seen| ground.wanted(seen))
 }
 
-impl Entry {
-    /// Whether both are of one request at one lane.
-    fn is_with(&self, other: &Entry) -> bool {
-        self.request == other.request
-    }
-}
-
-impl Keyed {
-    fn turn(&self) -> (Wanted, u64, bool, u32) {
-        (self.wanted, self.start, self.is_far, self.errand)
-    }
-}
-
 impl Part {
     fn new(ground: &Ground) -> Part {
         Part {
@@ -269,7 +233,7 @@ impl Part {
         for entry in own.get(span.first..span.end).unwrap_or(&[]) {
             if !entry.is_far {
                 self.nears.push(entry.errand)?;
-            } else if errands.get(entry.errand).shown.is_some() {
+            } else if errands.get(entry.errand).shown().is_some() {
                 self.fars.push(entry.errand)?;
             }
         }
@@ -290,7 +254,7 @@ impl Part {
 impl Span {
     /// Whether an entry that began then goes on with what begins with the one before.
     fn goes_on(&self, before: &Entry, entry: &Entry, start: u64) -> bool {
-        before.is_with(entry) && start <= self.reach
+        before.request == entry.request && start <= self.reach
     }
 
     /// With the entry at this place.
@@ -331,7 +295,9 @@ impl Lanes<'_> {
         let mut end = 0usize;
         for rank in 0..self.lanes.len() {
             let first = end;
-            end = end_of_lane(self.entries, rank);
+            end = self
+                .entries
+                .partition_point(|entry| usize::from(entry.rank) <= rank);
             let own = self.entries.get(first..end).unwrap_or(&[]);
             if !self.pair_lane(number(rank), own, errands, choices)? {
                 return Ok(false);
@@ -353,10 +319,14 @@ impl Lanes<'_> {
         let spans = self.spans(own, errands)?;
         let mut held = Held::new(self.ground, sides.stream.lane)?;
         let mut part = Part::new(self.ground);
+        let mut lists = Lists::new(self.ground.alloc);
         for span in &spans {
             part.fill(self.ground, own, span, errands)?;
             sort_by_shown(self.ground, errands, &mut part.fars);
-            if !self.pair_part(sides, &part, &mut held, errands, choices)? {
+            let trying = choices.of(&part.of);
+            let errands_of = (part.fars.as_slice(), part.nears.as_slice());
+            let mut trial = Trial::new(sides, trying, errands, errands_of, &mut lists)?;
+            if !self.try_part(&mut trial, &part, &mut held, errands, choices)? {
                 return Ok(false);
             }
         }
@@ -384,7 +354,7 @@ impl Lanes<'_> {
         let mut span = Span::default();
         for (place, entry) in own.iter().enumerate() {
             let errand = errands.get(entry.errand);
-            if entry.is_far && errand.shown.is_none() {
+            if entry.is_far && errand.shown().is_none() {
                 continue;
             }
             let start = errands.start(self.ground, &errand);
@@ -404,20 +374,6 @@ impl Lanes<'_> {
         list_span(&mut spans, span)?;
         spans.sort_unstable();
         Ok(spans)
-    }
-
-    fn pair_part(
-        &self,
-        sides: Sides,
-        part: &Part,
-        held: &mut Held,
-        errands: &mut Errands,
-        choices: &mut Choices,
-    ) -> Result<bool, Unfound> {
-        let trying = choices.of(&part.of);
-        let (fars, nears) = (part.fars.as_slice(), part.nears.as_slice());
-        let mut trial = Trial::new(sides, trying, errands, fars, nears)?;
-        self.try_part(&mut trial, part, held, errands, choices)
     }
 
     fn try_part(
@@ -472,10 +428,8 @@ fn list_span(spans: &mut Vec<Span>, span: Span) -> Result<(), NoMemory> {
 
 /// Far errands in the order in which they were shown.
 fn sort_by_shown(ground: &Ground, errands: &Errands, fars: &mut Vec<u32>) {
-    fars.sort_unstable_by_key(|far| shown_at(ground, errands, *far));
-}
-
-fn shown_at(ground: &Ground, errands: &Errands, far: u32) -> u32 {
-    let shown = errands.get(far).shown;
-    shown.map_or(0, |line| ground.place(line))
+    fars.sort_unstable_by_key(|far| {
+        let shown = errands.get(*far).shown();
+        shown.map_or(0, |line| ground.place(line))
+    });
 }

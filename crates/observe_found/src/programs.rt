@@ -158,7 +158,7 @@ impl Programs {
             return Ok(());
         };
         match errands.of_line(line) {
-            Some(errand) if errands.get(errand).shown == Some(line) => {
+            Some(errand) if errands.get(errand).shown() == Some(line) => {
                 self.write_delayed(ground, errands, errand, home)
             }
             None if seen.ending != Ending::Retry => {
@@ -224,8 +224,8 @@ impl Programs {
         let Some(seen) = ground.seen(line) else {
             return Ok(());
         };
-        let until = found.ended.map_or(NO_PLACE, |line| ground.place(line));
-        let shown = found.shown.unwrap_or(line);
+        let until = found.ended().map_or(NO_PLACE, |line| ground.place(line));
+        let shown = found.shown().unwrap_or(line);
         let master = self.thread(ground, shown, home, until)?;
         let first = self.add(master, line, Part::Dword { line, count: 0 })?;
         errands.name(errand, first);
@@ -310,7 +310,7 @@ impl Programs {
 /// How many operations a delayed line is: of a read that no lane claims one for each data phase,
 /// and one for the abort behind them.
 fn dwords(ground: &Ground, errand: &Errand, first: &Seen) -> u32 {
-    let Some(line) = errand.ended else {
+    let Some(line) = errand.ended() else {
         return 1;
     };
     let is_of_lane = matches!(ground.claimant(line), Place::Lane(_));

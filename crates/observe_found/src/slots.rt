@@ -17,41 +17,28 @@ struct Hold {
     end: u32,
 }
 
-/// A latch, or a slot that is free again, at a place of the bus where the lane begins. What frees a
-/// slot elsewhere comes before a latch of the same line, and what frees it there behind it.
-#[derive(Clone, Copy, PartialEq, Eq, PartialOrd, Ord)]
-pub(crate) struct Change {
-    rank: u32,
-    place: u32,
-    order: u32,
-    is_latch: bool,
-}
-
-/// How many slots a lane holds, lane by lane.
+/// How many slots of a lane are free again before a line of the bus where it begins, held from it
+/// on, and free again behind it. What frees a slot elsewhere comes before a latch of the same line,
+/// and what frees it there behind it.
 #[derive(Clone, Copy, Default)]
-pub(crate) struct Slots {
-    pub(crate) rank: u32,
-    pub(crate) held: u32,
+pub(crate) struct Change {
+    before: u16,
+    latched: u16,
+    behind: u16,
 }
 
-impl Slots {
-    /// After this change, which is the next of its lane, or the first.
-    pub(crate) fn after(self, change: &Change) -> Slots {
-        let before = if change.rank == self.rank {
-            self.held
-        } else {
-            0
-        };
-        let held = if change.is_latch {
-            before.saturating_add(1)
-        } else {
-            before.saturating_sub(1)
-        };
-        Slots {
-            rank: change.rank,
-            held,
+/// Whether more slots are held at some line than there are.
+pub(crate) fn overflows(changes: &[Change], slots: u32) -> bool {
+    let mut held = 0u32;
+    for change in changes {
+        held = held.saturating_sub(u32::from(change.before));
+        held = held.saturating_add(u32::from(change.latched));
+        if held > slots {
+            return true;
         }
+        held = held.saturating_sub(u32::from(change.behind));
     }
+    false
 }
 
 impl Held {
@@ -111,9 +98,9 @@ impl Held {
 /// nobody took to the end of the log may have been gone as soon as it was there.
 fn hold_of(ground: &Ground, errands: &Errands, far: u32) -> Option<Hold> {
     let errand = errands.get(far);
-    let latch = errand.latch?;
-    let near = errands.get(errand.near?);
-    let is_last = near.last_far == Some(far) && near.ended.is_some();
+    let latch = errand.latch()?;
+    let near = errands.get(errand.near()?);
+    let is_last = near.last_far() == Some(far) && near.ended().is_some();
     let first = ground.place(latch);
     let end = match freed(ground, &errand, &near, latch, is_last) {
         Some((place, 0)) => place,
@@ -128,34 +115,31 @@ pub(crate) fn slots_of(ground: &Ground, lane: Lane) -> u32 {
     bridge_to(ground.board, lane.bus).map_or(0, |bridge| u32::from(bridge.delayed))
 }
 
-/// When the slot of a far errand was held, by what the near bus did.
-pub(crate) fn list_changes(
+/// Notes when the slot of a far errand was held, by what the near bus did.
+pub(crate) fn note_changes(
     ground: &Ground,
     errands: &Errands,
-    rank: u32,
     far: u32,
     changes: &mut Vec<Change>,
-) -> Result<(), NoMemory> {
+) {
     let errand = errands.get(far);
-    let (Some(latch), Some(near)) = (errand.latch, errand.near) else {
-        return Ok(());
+    let (Some(latch), Some(near)) = (errand.latch(), errand.near()) else {
+        return;
     };
-    changes.push(Change {
-        rank,
-        place: ground.place(latch),
-        order: 1,
-        is_latch: true,
-    })?;
-    let near = errands.get(near);
-    if let Some((place, order)) = freed(ground, &errand, &near, latch, near.last_far == Some(far)) {
-        changes.push(Change {
-            rank,
-            place,
-            order,
-            is_latch: false,
-        })?;
+    if let Some(change) = changes.get_mut(ground.place(latch) as usize) {
+        change.latched = change.latched.saturating_add(1);
     }
-    Ok(())
+    let near = errands.get(near);
+    let is_last = near.last_far() == Some(far);
+    if let Some((place, order)) = freed(ground, &errand, &near, latch, is_last)
+        && let Some(change) = changes.get_mut(place as usize)
+    {
+        if order == 0 {
+            change.before = change.before.saturating_add(1);
+        } else {
+            change.behind = change.behind.saturating_add(1);
+        }
+    }
 }
 
 /// Where the slot is free again: where the completion was taken, or as soon as it was discarded.
@@ -167,13 +151,13 @@ fn freed(
     is_last: bool,
 ) -> Option<(u32, u32)> {
     if is_last {
-        return Some((ground.place(near.ended?), 2));
+        return Some((ground.place(near.ended()?), 2));
     }
     let bus = ground.seen(latch)?.bus;
-    if far.ended.is_none() {
+    if far.ended().is_none() {
         return None;
     }
-    let gone = ground.first_behind(bus, far.release);
+    let gone = ground.first_behind(bus, far.release());
     if gone <= ground.place(latch) {
         Some((ground.place(latch), 2))
     } else {

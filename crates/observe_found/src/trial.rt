@@ -1,9 +1,11 @@
 use crate::errands::{Errand, Errands};
-use crate::ground::{NO_PLACE, number};
+use crate::ground::{Ground, NO_PLACE};
 use crate::latches::{Sides, Strictness};
 use crate::slots::Held;
 use observe_told::Unfound;
 use pci_command::NoMemory;
+use std::alloc::Global;
+use std::mem::replace;
 
 /// How many steps the trying of pairings takes at most, beside one for each errand; and where others
 /// are tried otherwise than usual.
@@ -61,46 +63,57 @@ pub(crate) struct Trial<'a> {
     fars: &'a [u32],
     /// The near ones, by when they began.
     nears: &'a [u32],
-    /// Those that never ended, and those that did, these with when the last of them so far ended,
-    /// and by when they ended.
+    lists: &'a mut Lists,
+}
+
+/// What a trial goes by, in lists that the next one takes over.
+#[derive(Drop)]
+pub(crate) struct Lists {
+    /// The near ones that never ended, and those that did, these with when the last of them so far
+    /// ended, and by when they ended.
     endless: Vec<u32>,
     ended: Vec<u32>,
     reaches: Vec<u64>,
     by_end: Vec<u32>,
     queue: Vec<u32>,
     levels: Vec<Level>,
+    ranks: Vec<Rank>,
 }
 
-impl<'a> Trial<'a> {
-    pub(crate) fn new(
-        sides: Sides<'a>,
-        trying: Trying,
-        errands: &Errands,
-        fars: &'a [u32],
-        nears: &'a [u32],
-    ) -> Result<Trial<'a>, NoMemory> {
-        let alloc = sides.ground.alloc;
-        let mut trial = Trial {
-            sides,
-            trying,
-            fars,
-            nears,
+impl Lists {
+    pub(crate) fn new(alloc: Global) -> Lists {
+        Lists {
             endless: Vec::new(alloc),
             ended: Vec::new(alloc),
             reaches: Vec::new(alloc),
             by_end: Vec::new(alloc),
             queue: Vec::new(alloc),
             levels: Vec::new(alloc),
-        };
-        trial.sort_in(errands, nears)?;
-        Ok(trial)
+            ranks: Vec::new(alloc),
+        }
     }
 
-    fn sort_in(&mut self, errands: &Errands, nears: &[u32]) -> Result<(), NoMemory> {
+    fn clear(&mut self) {
+        self.endless.clear();
+        self.ended.clear();
+        self.reaches.clear();
+        self.by_end.clear();
+        self.queue.clear();
+        self.levels.clear();
+        self.ranks.clear();
+    }
+
+    fn sort_in(
+        &mut self,
+        ground: &Ground,
+        errands: &Errands,
+        nears: &[u32],
+    ) -> Result<(), NoMemory> {
         let mut reach = 0u64;
         for near in nears {
-            let until = self.open_until(errands, *near);
-            if errands.get(*near).ended.is_some() {
+            let errand = errands.get(*near);
+            let until = errands.open_until(ground, &errand);
+            if errand.ended().is_some() {
                 reach = reach.max(until);
                 self.ended.push(*near)?;
                 self.reaches.push(reach)?;
@@ -109,10 +122,30 @@ impl<'a> Trial<'a> {
                 self.endless.push(*near)?;
             }
         }
-        let ground = self.sides.ground;
         self.by_end
             .sort_unstable_by_key(|near| errands.open_until(ground, &errands.get(*near)));
         Ok(())
+    }
+}
+
+impl<'a> Trial<'a> {
+    pub(crate) fn new(
+        sides: Sides<'a>,
+        trying: Trying,
+        errands: &Errands,
+        part: (&'a [u32], &'a [u32]),
+        lists: &'a mut Lists,
+    ) -> Result<Trial<'a>, NoMemory> {
+        let (fars, nears) = part;
+        lists.clear();
+        lists.sort_in(sides.ground, errands, nears)?;
+        Ok(Trial {
+            sides,
+            trying,
+            fars,
+            nears,
+            lists,
+        })
     }
 
     fn open_until(&self, errands: &Errands, near: u32) -> u64 {
@@ -128,11 +161,11 @@ impl<'a> Trial<'a> {
     pub(crate) fn unasked(&mut self, errands: &Errands) -> Result<Option<u32>, NoMemory> {
         let fars = self.fars;
         for far in fars {
-            self.queue.clear();
+            self.lists.queue.clear();
             let far = errands.get(*far);
             self.list(errands, &far, Strictness::Loose, 0)?;
-            if self.queue.is_empty() {
-                return Ok(far.shown);
+            if self.lists.queue.is_empty() {
+                return Ok(far.shown());
             }
         }
         Ok(None)
@@ -147,8 +180,8 @@ impl<'a> Trial<'a> {
         is_brief: bool,
     ) -> Result<bool, Unfound> {
         let (sides, fars, nears) = (self.sides, self.fars, self.nears);
-        self.queue.clear();
-        self.levels.clear();
+        self.lists.queue.clear();
+        self.lists.levels.clear();
         self.open(errands, strictness, 0)?;
         let mut steps = 0usize;
         let most = if is_brief { FEW_STEPS } else { MOST_STEPS };
@@ -163,7 +196,7 @@ impl<'a> Trial<'a> {
             };
             errands.give(far, near);
             steps = steps.saturating_add(1);
-            if self.levels.len() < fars.len() {
+            if self.lists.levels.len() < fars.len() {
                 let floor = self.floor_behind(errands, far);
                 self.open(errands, strictness, floor)?;
             } else if sides.settle(errands, held, fars, nears, strictness)? {
@@ -179,7 +212,7 @@ impl<'a> Trial<'a> {
     }
 
     fn too_many(&self, errands: &Errands) -> Unfound {
-        let line = self.fars.first().and_then(|far| errands.get(*far).shown);
+        let line = self.fars.first().and_then(|far| errands.get(*far).shown());
         Unfound::TooManyPairings {
             line: line.unwrap_or(0),
         }
@@ -187,27 +220,27 @@ impl<'a> Trial<'a> {
 
     /// The far errand for which a near one is looked for.
     fn current(&self) -> Option<u32> {
-        let at = self.levels.len().checked_sub(1)?;
+        let at = self.lists.levels.len().checked_sub(1)?;
         self.fars.get(at).copied()
     }
 
     /// The next near errand that is tried for it; where there is none more, the one before is tried
     /// otherwise.
     fn choose(&mut self) -> Option<u32> {
-        let level = self.levels.last().copied()?;
-        let near = self.queue.get(level.next).copied();
+        let level = self.lists.levels.last().copied()?;
+        let near = self.lists.queue.get(level.next).copied();
         if near.is_some() {
             self.pass_on();
         } else {
-            self.queue.truncate(level.from);
-            self.levels.pop();
+            self.lists.queue.truncate(level.from);
+            self.lists.levels.pop();
         }
         near
     }
 
     /// What is tried next for the last far errand is the one behind.
     fn pass_on(&mut self) {
-        if let Some(level) = self.levels.as_mut_slice().last_mut() {
+        if let Some(level) = self.lists.levels.as_mut_slice().last_mut() {
             level.next = level.next.saturating_add(1);
         }
     }
@@ -219,15 +252,15 @@ impl<'a> Trial<'a> {
         strictness: Strictness,
         floor: u32,
     ) -> Result<(), NoMemory> {
-        let from = self.queue.len();
-        let at = self.levels.len();
+        let from = self.lists.queue.len();
+        let at = self.lists.levels.len();
         if let Some(far) = self.fars.get(at).copied() {
             let far = errands.get(far);
             if strictness == Strictness::Loose || self.can_go_on(errands, at) {
                 self.list(errands, &far, strictness, floor)?;
             }
         }
-        self.levels.push(Level {
+        self.lists.levels.push(Level {
             from,
             next: from,
             floor,
@@ -238,13 +271,13 @@ impl<'a> Trial<'a> {
     /// From which place on the latch of the next far errand may stand: behind the first that this
     /// one may have.
     fn floor_behind(&self, errands: &Errands, far: u32) -> u32 {
-        let floor = self.levels.last().map_or(0, |level| level.floor);
+        let floor = self.lists.levels.last().map_or(0, |level| level.floor);
         let far = errands.get(far);
-        let Some(near) = far.near else {
+        let Some(near) = far.near() else {
             return floor;
         };
         let near = errands.get(near);
-        let low = floor.max(self.sides.low_place(errands, &near, far.before));
+        let low = floor.max(self.sides.low_place(errands, &near, far.before()));
         match self.sides.first_line(errands, &near, low) {
             Some(line) => self.sides.ground.place(line).saturating_add(1),
             None => floor,
@@ -258,19 +291,20 @@ impl<'a> Trial<'a> {
             None => 0,
         };
         let to = self.ended_before(errands, at);
-        let between = self.by_end.as_slice().get(from..to).unwrap_or(&[]);
+        let between = self.lists.by_end.get(from..to).unwrap_or(&[]);
         between
             .iter()
-            .all(|near| errands.get(*near).last_far.is_some())
+            .all(|near| errands.get(*near).last_far().is_some())
     }
 
     /// How many near errands ended before the far one began to end.
     fn ended_before(&self, errands: &Errands, at: usize) -> usize {
-        let ended = self.fars.get(at).and_then(|far| errands.get(*far).ended);
+        let ended = self.fars.get(at).and_then(|far| errands.get(*far).ended());
         match ended {
             Some(line) => {
                 let time = self.sides.ground.start(line);
-                self.by_end
+                self.lists
+                    .by_end
                     .as_slice()
                     .partition_point(|near| self.open_until(errands, *near) < time)
             }
@@ -287,27 +321,18 @@ impl<'a> Trial<'a> {
         strictness: Strictness,
         floor: u32,
     ) -> Result<(), NoMemory> {
-        let ranks = self.ranks(errands, far, strictness, floor)?;
-        for rank in &ranks {
-            self.queue.push(rank.near)?;
-        }
-        Ok(())
-    }
-
-    fn ranks(
-        &self,
-        errands: &Errands,
-        far: &Errand,
-        strictness: Strictness,
-        floor: u32,
-    ) -> Result<Vec<Rank>, NoMemory> {
-        let mut ranks = Vec::new(self.sides.ground.alloc);
+        let mut ranks = replace(&mut self.lists.ranks, Vec::new(self.sides.ground.alloc));
+        ranks.clear();
         self.list_ranks(errands, far, (strictness, floor), &mut ranks)?;
         if self.trying == Trying::Staying {
             self.put_behind(errands, &mut ranks)?;
         }
         ranks.sort_unstable();
-        Ok(ranks)
+        for rank in &ranks {
+            self.lists.queue.push(rank.near)?;
+        }
+        self.lists.ranks = ranks;
+        Ok(())
     }
 
     fn list_ranks(
@@ -319,16 +344,16 @@ impl<'a> Trial<'a> {
     ) -> Result<(), NoMemory> {
         let ground = self.sides.ground;
         let start = errands.start(ground, far);
-        let reaches = self.reaches.as_slice();
+        let reaches = self.lists.reaches.as_slice();
         let first = reaches.partition_point(|reach| *reach < start);
-        for near in self.ended.iter().skip(first) {
+        for near in self.lists.ended.iter().skip(first) {
             let errand = errands.get(*near);
-            if errands.start(ground, &errand) > far.deadline {
+            if errands.start(ground, &errand) > far.deadline() {
                 break;
             }
             self.rank_in(errands, far, *near, asked, ranks)?;
         }
-        for near in &self.endless {
+        for near in &self.lists.endless {
             self.rank_in(errands, far, *near, asked, ranks)?;
         }
         Ok(())
@@ -385,7 +410,7 @@ impl<'a> Trial<'a> {
         let errand = errands.get(near);
         let was_open = self.was_open(errands, far, &errand);
         let serves = strictness == Strictness::Loose || self.serves(errands, far, &errand, floor);
-        if was_open && serves && self.sides.was_asked(near, far.deadline) {
+        if was_open && serves && self.sides.was_asked(near, far.deadline()) {
             ranks.push(self.rank(errands, far, near))?;
         }
         Ok(())
@@ -394,29 +419,29 @@ impl<'a> Trial<'a> {
     /// Whether the near errand was open at some time of the far one.
     fn was_open(&self, errands: &Errands, far: &Errand, near: &Errand) -> bool {
         let ground = self.sides.ground;
-        errands.start(ground, near) <= far.deadline
+        errands.start(ground, near) <= far.deadline()
             && errands.start(ground, far) <= errands.open_until(ground, near)
     }
 
     /// Whether the far errand can have been made for the near one, with a latch from this place on.
     fn serves(&self, errands: &Errands, far: &Errand, near: &Errand, floor: u32) -> bool {
         let ground = self.sides.ground;
-        let in_time = match (near.ended, far.ended) {
+        let in_time = match (near.ended(), far.ended()) {
             (None, _) => true,
             (Some(_), None) => false,
-            (Some(taken), Some(_made)) => far.release <= ground.end(taken),
+            (Some(taken), Some(_made)) => far.release() <= ground.end(taken),
         };
-        let is_free = match near.last_far {
-            Some(before) => errands.get(before).ended.is_some(),
+        let is_free = match near.last_far() {
+            Some(before) => errands.get(before).ended().is_some(),
             None => true,
         };
-        let low = floor.max(self.sides.low_place(errands, near, near.last_far));
+        let low = floor.max(self.sides.low_place(errands, near, near.last_far()));
         in_time
             && is_free
             && match self.sides.first_line(errands, near, low) {
                 Some(line) => {
                     ground.place(line) < self.sides.high_place(far)
-                        && ground.start(line) <= far.deadline
+                        && ground.start(line) <= far.deadline()
                 }
                 None => false,
             }
@@ -424,7 +449,7 @@ impl<'a> Trial<'a> {
 
     fn rank(&self, errands: &Errands, far: &Errand, near: u32) -> Rank {
         let errand = errands.get(near);
-        let stage = if errand.last_far.is_some() {
+        let stage = if errand.last_far().is_some() {
             SERVED
         } else {
             UNSERVED
@@ -445,12 +470,12 @@ impl<'a> Trial<'a> {
     fn rank_by_end(&self, errands: &Errands, far: &Errand, near: u32, stage: u8) -> Rank {
         let sides = &self.sides;
         let errand = errands.get(near);
-        let is_other = match (far.ended, errand.ended) {
+        let is_other = match (far.ended(), errand.ended()) {
             (Some(made), Some(taken)) => !sides.same_outcome(made, taken),
             _ => true,
         };
         let high = sides.high_place(far);
-        let latest = sides.last_line(errands, &errand, high, far.deadline);
+        let latest = sides.last_line(errands, &errand, high, far.deadline());
         let place = latest.map_or(0, |line| sides.ground.place(line));
         Rank {
             stage,

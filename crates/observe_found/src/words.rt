@@ -1,46 +1,48 @@
-use crate::ground::Ground;
+use crate::ground::{Ground, number};
 use board_model::{Opening, Place};
 use observe_told::{Seen, Unfound, Who};
 use pci_command::{NoMemory, Phase, Space};
 use std::alloc::Global;
-use std::collections::BTreeMap;
+use std::collections::HashMap;
 
 /// How many opening words a target has at most.
 const MOST_OPENINGS: usize = 256;
 
 /// A dword of a target, in memory or I/O.
-#[derive(Clone, Copy, PartialEq, Eq, PartialOrd, Ord)]
-pub(crate) struct Dword {
-    pub(crate) target: u16,
-    pub(crate) is_io: bool,
-    pub(crate) address: u64,
+#[derive(Clone, Copy, PartialEq, Eq, PartialOrd, Ord, Hash)]
+struct Dword {
+    target: u16,
+    is_io: bool,
+    address: u64,
 }
 
 /// Which bytes of a dword are known, since they were read or written, and what it opened as.
 #[derive(Clone, Copy, Default)]
-pub(crate) struct Known {
+struct Known {
     enables: u8,
-    pub(crate) opening: u32,
+    opening: u32,
 }
 
 /// A word that a target opened with.
-#[derive(Clone, Copy)]
+#[derive(Clone, Copy, PartialEq, Eq, PartialOrd, Ord)]
 pub(crate) struct Further {
-    target: u16,
-    pub(crate) opening: Opening,
+    dword: Dword,
+    value: u32,
 }
 
 /// The opening words of all targets beside those that the board of the log names, target by target.
 pub(crate) fn further_words(ground: &Ground) -> Result<Vec<Further>, Unfound> {
     let mut openings = Openings::new(ground.alloc);
+    openings.list_all(ground)?;
     openings.know_all(ground)?;
     Ok(openings.further(ground.alloc)?)
 }
 
-/// What dwords opened as: their bytes as first read before they were written.
+/// What dwords opened as: their bytes as first read before they were written. Only those are kept
+/// that were read as something else than 0.
 #[derive(Drop)]
 struct Openings {
-    dwords: BTreeMap<Dword, Known>,
+    dwords: HashMap<Dword, Known>,
     /// Of each target how many it has.
     counts: Vec<usize>,
 }
@@ -48,9 +50,26 @@ struct Openings {
 impl Openings {
     fn new(alloc: Global) -> Openings {
         Openings {
-            dwords: BTreeMap::new(alloc),
+            dwords: HashMap::new(alloc),
             counts: Vec::new(alloc),
         }
+    }
+
+    /// Lists the dwords that may have opened as something else than 0.
+    fn list_all(&mut self, ground: &Ground) -> Result<(), NoMemory> {
+        for (line, seen) in ground.lines.iter().enumerate() {
+            if !seen.command.is_read() {
+                continue;
+            }
+            for (count, phase) in looked_at(ground, seen).iter().enumerate() {
+                if phase.value != 0
+                    && let Some(dword) = dword_at(ground, number(line), seen, count)
+                {
+                    self.dwords.insert(dword, Known::default())?;
+                }
+            }
+        }
+        Ok(())
     }
 
     /// Those that the board of the log names, and those that its lines show.
@@ -59,83 +78,56 @@ impl Openings {
         for (place, target) in targets.iter().enumerate() {
             self.counts.push(target.openings.as_slice().len())?;
             for opening in target.openings.as_slice() {
-                self.know_given(place, opening)?;
+                self.know_given(place, opening);
             }
         }
-        for bus in 0..=255u8 {
-            for line in ground.on_bus(bus) {
-                self.follow(ground, *line)?;
+        if !self.dwords.is_empty() {
+            for (line, seen) in ground.lines.iter().enumerate() {
+                self.follow(ground, number(line), seen)?;
             }
         }
         Ok(())
     }
 
     /// A dword that the board of the log names.
-    fn know_given(&mut self, target: usize, opening: &Opening) -> Result<(), Unfound> {
+    fn know_given(&mut self, target: usize, opening: &Opening) {
         let dword = Dword {
             target: u16::try_from(target).unwrap_or(u16::MAX),
             is_io: opening.space == Space::Io,
             address: opening.address,
         };
-        self.dwords.insert(
-            dword,
-            Known {
-                enables: 15,
-                opening: 0,
-            },
-        )?;
-        Ok(())
+        if let Some(known) = self.dwords.get_mut(&dword) {
+            known.enables = 15;
+        }
     }
 
-    fn follow(&mut self, ground: &Ground, line: u32) -> Result<(), Unfound> {
-        let Some(seen) = ground.seen(line) else {
-            return Ok(());
-        };
-        let Place::Target(target) = ground.claimant(line) else {
-            return Ok(());
-        };
-        let space = seen.command.space();
-        if space == Space::Cfg {
-            return Ok(());
-        }
+    fn follow(&mut self, ground: &Ground, line: u32, seen: &Seen) -> Result<(), Unfound> {
         for (count, phase) in looked_at(ground, seen).iter().enumerate() {
-            let dword = Dword {
-                target,
-                is_io: space == Space::Io,
-                address: ground
-                    .first_address(line)
-                    .saturating_add(4 * (count as u64 & 0xff_ffff)),
+            let Some(dword) = dword_at(ground, line, seen, count) else {
+                return Ok(());
             };
-            if seen.command.is_read() {
-                self.read(dword, phase.value, line)?;
-            } else {
-                self.write(dword, phase.enables)?;
+            if self.look(&dword, seen.command.is_read(), phase) {
+                self.count(dword.target, line)?;
             }
         }
         Ok(())
     }
 
-    fn known(&self, dword: &Dword) -> Known {
-        self.dwords.get(dword).copied().unwrap_or_default()
-    }
-
-    fn write(&mut self, dword: Dword, enables: u8) -> Result<(), Unfound> {
-        let mut known = self.known(&dword);
-        known.enables |= enables;
-        self.dwords.insert(dword, known)?;
-        Ok(())
-    }
-
-    fn read(&mut self, dword: Dword, value: u32, line: u32) -> Result<(), Unfound> {
-        let mut known = self.known(&dword);
-        let fresh = value & !bytes_of(known.enables);
-        if known.opening == 0 && fresh != 0 {
-            self.count(dword.target, line)?;
+    /// Whether by this look, at what is read or written, a dword is known to have opened as
+    /// something else than 0.
+    fn look(&mut self, dword: &Dword, is_read: bool, phase: &Phase) -> bool {
+        let Some(known) = self.dwords.get_mut(dword) else {
+            return false;
+        };
+        if !is_read {
+            known.enables |= phase.enables;
+            return false;
         }
+        let fresh = phase.value & !bytes_of(known.enables);
+        let is_first = known.opening == 0 && fresh != 0;
         known.opening |= fresh;
         known.enables = 15;
-        self.dwords.insert(dword, known)?;
-        Ok(())
+        is_first
     }
 
     fn count(&mut self, target: u16, line: u32) -> Result<(), Unfound> {
@@ -153,27 +145,46 @@ impl Openings {
         for (dword, known) in &self.dwords {
             if known.opening != 0 {
                 all.push(Further {
-                    target: dword.target,
-                    opening: opening_of(dword, known.opening),
+                    dword: *dword,
+                    value: known.opening,
                 })?;
             }
         }
+        all.sort_unstable();
         Ok(all)
     }
 }
 
-fn opening_of(dword: &Dword, value: u32) -> Opening {
-    Opening {
-        space: if dword.is_io { Space::Io } else { Space::Mem },
-        address: dword.address,
-        value,
+impl Further {
+    pub(crate) fn opening(&self) -> Opening {
+        let Dword { is_io, address, .. } = self.dword;
+        Opening {
+            space: if is_io { Space::Io } else { Space::Mem },
+            address,
+            value: self.value,
+        }
+    }
+}
+
+/// The dword of this data phase of the line, where a target claims it in memory or I/O.
+fn dword_at(ground: &Ground, line: u32, seen: &Seen, phase: usize) -> Option<Dword> {
+    let space = seen.command.space();
+    match ground.claimant(line) {
+        Place::Target(target) if space != Space::Cfg => Some(Dword {
+            target,
+            is_io: space == Space::Io,
+            address: ground
+                .first_address(line)
+                .saturating_add(4 * (phase as u64 & 0xff_ffff)),
+        }),
+        _ => None,
     }
 }
 
 /// Those of this target, of all that stand target by target.
 pub(crate) fn further_of(all: &[Further], target: u16) -> &[Further] {
-    let first = all.partition_point(|further| further.target < target);
-    let end = all.partition_point(|further| further.target <= target);
+    let first = all.partition_point(|further| further.dword.target < target);
+    let end = all.partition_point(|further| further.dword.target <= target);
     all.get(first..end).unwrap_or(&[])
 }
 

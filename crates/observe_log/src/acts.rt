@@ -3,7 +3,7 @@ ghost use Rattle.board_model.specs.WellFormed.{is_well_formed};
 ghost use Rattle.observe_log.specs.Acts.{IsInitiator, place_by, IsOf};
 
 use crate::boards::is_master;
-use crate::row::{is_lane, row_of};
+use crate::row::{is_lane, row_by};
 use crate::rows::{Act, goes_on};
 use crate::shown::Shown;
 use board_model::{Board, Place, request_of};
@@ -41,7 +41,7 @@ pub(crate) fn act_of(
     }
     let request = request_of(board, op, bus)?;
     let act = Act {
-        row: row_of(log, seen),
+        row: row_by(claimant, seen),
         lane: is_lane(claimant),
         seen,
         words: log.phases_of(seen),

@@ -1,6 +1,8 @@
 ghost use Rattle.std.specs.Prelude.{◌≡◌, IsTrue};
 ghost use Rattle.board_model.specs.WellFormed.{is_well_formed};
 ghost use Rattle.board_model.specs.Ways.{is_lane};
+ghost use Rattle.observe_told.specs.Addresses.{claimant};
+ghost use Rattle.observe_told.specs.declared.seen.Log.{Log};
 ghost use Rattle.observe_log.specs.Rows.{posted_row, end_row, delayed_row, row_of};
 
 use board_model::Place;
@@ -34,11 +36,17 @@ pub(crate) fn row_of(log: &Log, seen: &Seen) -> Row
     requires { IsTrue (is_well_formed log.now.board) }
     ensures { result ≡ row_of log.now seen.now }
 {
+    row_by(seen.claimant(&log.board), seen)
+}
+
+/// The same, where it is known who claims the line.
+pub(crate) fn row_by(claimed: Place, seen: &Seen) -> Row
+    ensures { (log : Log) → claimed ≡ claimant log.board seen.now → result ≡ row_of log seen.now }
+{
     if seen.is_posted() {
         return posted_row(seen.ending);
     }
-    let lane = is_lane(seen.claimant(&log.board));
-    delayed_row(lane, seen, seen.ending)
+    delayed_row(is_lane(claimed), seen, seen.ending)
 }
 
 fn posted_row(ending: Ending) -> Row

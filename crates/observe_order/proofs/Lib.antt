@@ -1,2 +1,3 @@
 pub mod JudgingLemmas
 pub mod GoingLemmas
+pub mod ActsLemmas

@@ -1,116 +1,105 @@
-ghost use Rattle.judge_next.specs.Course.{HasCourse};
+ghost use Rattle.std.specs.Prelude.{IfOk, OnOk};
+ghost use Rattle.observe_order.specs.Going.{HasLanded, EndsLanded};
 
 use crate::blame::blamed;
-use crate::going::{all_arrive, begun, try_event};
+use crate::going::{begun, try_act};
 use crate::reasons::Past;
 use board_tree::Tree;
+use history_model::Event;
 use judge_next::Course;
-use observe_told::{ActsTold, Heads, LineActs, Refused, Seen, SeenAct};
+use observe_told::{ActsTold, Heads, LineActs, Refused, Seen, SeenAct, Woven};
 use pci_command::{List, NoMemory};
 use std::alloc::Global;
 
-/// The acts of a log.
+/// The run that the acts of a log make which are allowed, and of each of these acts the place of
+/// its line in the log.
 #[derive(Debug, Drop)]
 pub struct Ordered {
-    /// In the order in which they were taken, unless one is refused.
-    pub acts: LineActs,
+    pub run: Woven,
+    pub lines: Vec<u32>,
     /// Where one is refused: it stands behind those that were taken, and behind it all others, by
     /// when their lines began.
     pub stopped: Option<ActsTold>,
 }
 
-/// The places of the acts that were taken.
-#[derive(Drop)]
-struct Taken {
-    places: Vec<u32>,
-    stopped: Option<ActsTold>,
-}
-
 impl Ordered {
     /// The act that is refused, if one is.
     pub fn refused(&self) -> Option<Refused> {
-        match &self.stopped {
-            Some(told) => told.refused,
-            None => None,
-        }
+        self.stopped.as_ref().and_then(|told| told.refused)
     }
 }
 
 /// The acts of a log, bus by bus, in an order that its times leave: each as soon as the machine
 /// allows it, the bus whose line began first before the others. Acts of one bus stand in the order
 /// of its lines, and those of a line that ended before another began come first. The time grows
-/// with the number of acts, and that of the buses. Nothing is claimed of the order: whether a run
-/// has these acts is for `fill` to say.
+/// with the number of acts, and that of the buses. What was taken is a run, with all arrivals as
+/// early as can be.
 pub fn order(
     alloc: Global,
     tree: &Tree,
     acts: LineActs,
     lines: &[Seen],
-) -> Result<Ordered, NoMemory> {
-    let Taken { places, stopped } = take_all(alloc, tree, &acts, lines)?;
-    let acts = if stopped.is_none() {
-        acts.in_order(places)
-    } else {
-        acts
-    };
-    Ok(Ordered { acts, stopped })
-}
-
-/// The run goes on by all acts that are allowed.
-fn take_all(
-    alloc: Global,
-    tree: &Tree,
-    acts: &LineActs,
-    lines: &[Seen],
-) -> Result<Taken, NoMemory> {
-    let mut heads = Heads::new(alloc, acts, lines)?;
-    let mut places = Vec::with_capacity(alloc, heads.total())?;
+) -> Result<Ordered, NoMemory>
+    ensures { IfOk result (λ ordered. EndsLanded tree.now ordered.run) }
+{
+    let mut run = Woven::with_room(alloc, tree.bound() as usize, acts.count())?;
+    let mut heads = Heads::new(alloc, &acts, lines)?;
     let mut course = begun(alloc, tree)?;
-    go_on(&mut course, tree, &mut heads, &mut places)?;
+    let lines = go_on(alloc, &mut course, &mut run, tree, &mut heads)?;
     let stopped = match heads.candidates() {
         [] => None,
-        _ => stop(alloc, &course, tree, &heads, places.as_slice())?,
+        _ => stop(alloc, &course, &run, tree, &heads, lines.as_slice())?,
     };
-    Ok(Taken { places, stopped })
+    Ok(Ordered {
+        run,
+        lines,
+        stopped,
+    })
 }
 
-/// Acts are taken as long as one is allowed. Whether one is goes by what happened on its bus, so
-/// that one which is refused is not tried again before something does.
+/// Acts are taken as long as one is allowed: the places of their lines. Whether one is goes by what
+/// happened on its bus, so that one which is refused is not tried again before something does.
 fn go_on(
+    alloc: Global,
     course: &mut Course,
+    run: &mut Woven,
     tree: &Tree,
     heads: &mut Heads,
-    places: &mut Vec<u32>,
-) -> Result<(), NoMemory>
-    requires { HasCourse tree.now course.old }
+) -> Result<Vec<u32>, NoMemory>
+    requires { HasLanded tree.now run.old course.old }
+    ensures { OnOk result (HasLanded tree.now run.new course.new) }
 {
+    let mut lines = Vec::with_capacity(alloc, heads.total())?;
     for _act in 0..heads.total() {
-        match take_first(course, tree, heads) {
-            Some(place) => places.push(place)?,
-            None => return Ok(()),
+        match take_first(course, run, tree, heads)? {
+            Some(line) => lines.push(line)?,
+            None => return Ok(lines),
         }
     }
-    Ok(())
+    Ok(lines)
 }
 
-/// The first of the candidates that is allowed happens, and all arrivals behind it: its place among
-/// the acts.
-fn take_first(course: &mut Course, tree: &Tree, heads: &mut Heads) -> Option<u32>
-    requires { HasCourse tree.now course.old }
-    ensures { HasCourse tree.now course.new }
+/// The first of the candidates that is allowed happens, and all arrivals behind it: the place of
+/// its line.
+fn take_first(
+    course: &mut Course,
+    run: &mut Woven,
+    tree: &Tree,
+    heads: &mut Heads,
+) -> Result<Option<u32>, NoMemory>
+    requires { HasLanded tree.now run.old course.old }
+    ensures { OnOk result (HasLanded tree.now run.new course.new) }
 {
     for candidate in 0..heads.candidates().len() {
-        let Some(event) = heads.untried(candidate) else {
+        let Some(act) = heads.untried(candidate) else {
             continue;
         };
-        if try_event(course, tree, &event) {
-            let place = heads.take(candidate);
-            all_arrive(course, tree, heads, &event);
-            return Some(place);
+        if try_act(course, run, tree, heads, &act)? {
+            return Ok(Some(heads.take(candidate)));
         }
         heads.refuse(candidate);
     }
-    None
+    Ok(None)
 }
 
 /// Which of the candidates is refused behind the acts that were taken, and all acts with it and
@@ -118,11 +107,12 @@ fn take_first(course: &mut Course, tree: &Tree, heads: &mut Heads) -> Option<u32
 fn stop<'a>(
     alloc: Global,
     course: &'a Course,
+    run: &Woven,
     tree: &'a Tree,
     heads: &'a Heads<'a>,
-    taken: &[u32],
+    lines: &[u32],
 ) -> Result<Option<ActsTold>, NoMemory> {
-    let mut acts = acts_at(alloc, heads, taken)?;
+    let mut acts = acts_taken(alloc, run, lines)?;
     let count = acts.len();
     let past = Past {
         kept: course.kept(),
@@ -133,22 +123,29 @@ fn stop<'a>(
     let Some((candidate, refused)) = blamed(&past, heads.candidates()) else {
         return Ok(None);
     };
-    list_left(alloc, heads, candidate.act, &mut acts)?;
-    let LineActs { events, lines } = of_lines(alloc, heads, acts.as_slice())?;
-    Ok(Some(ActsTold {
-        acts: List::from_vec(events),
-        lines: List::from_vec(lines),
-        taken: count,
-        refused: Some(refused),
-    }))
+    if let Some(act) = heads.act(&candidate) {
+        list_left(alloc, heads, act, &mut acts)?;
+    }
+    Ok(Some(told(alloc, heads, acts.as_slice(), count, refused)?))
 }
 
-/// The acts at these places.
-fn acts_at(alloc: Global, heads: &Heads, places: &[u32]) -> Result<Vec<SeenAct>, NoMemory> {
-    let mut acts = Vec::with_capacity(alloc, places.len())?;
-    for place in places {
-        if let Some(act) = heads.act(*place) {
-            acts.push(act)?;
+/// The acts that were taken, at these lines.
+fn acts_taken(alloc: Global, run: &Woven, lines: &[u32]) -> Result<Vec<SeenAct>, NoMemory> {
+    let mut acts = Vec::with_capacity(alloc, lines.len())?;
+    for (line, act) in lines.iter().zip(&run.acts) {
+        if let Event::Act {
+            op,
+            step,
+            place,
+            ..
+        } = *act
+        {
+            acts.push(SeenAct {
+                line: *line,
+                op,
+                step,
+                place,
+            })?;
         }
     }
     Ok(acts)
@@ -171,13 +168,26 @@ fn list_left(
     Ok(())
 }
 
-/// The same as events.
-fn of_lines(alloc: Global, heads: &Heads, acts: &[SeenAct]) -> Result<LineActs, NoMemory> {
-    let mut of_lines = LineActs::new(alloc);
+/// These acts as events, of which so many were taken.
+fn told(
+    alloc: Global,
+    heads: &Heads,
+    acts: &[SeenAct],
+    taken: usize,
+    refused: Refused,
+) -> Result<ActsTold, NoMemory> {
+    let mut events = Vec::with_capacity(alloc, acts.len())?;
+    let mut lines = Vec::with_capacity(alloc, acts.len())?;
     for act in acts {
         if let Some(seen) = heads.seen(act.line) {
-            of_lines.push(seen, *act)?;
+            events.push(act.event(seen))?;
+            lines.push(act.line)?;
         }
     }
-    Ok(of_lines)
+    Ok(ActsTold {
+        acts: List::from_vec(events),
+        lines: List::from_vec(lines),
+        taken,
+        refused: Some(refused),
+    })
 }

@@ -23,7 +23,8 @@ impl<'a> Past<'a> {
     pub(crate) fn why(&self, candidate: &Candidate) -> (Why, WhyNot)
         requires { IsTrue (is_well_formed self.now.board.now) }
     {
-        let Some((presented, step, place)) = parts(&candidate.event) else {
+        let event = self.heads.event(candidate);
+        let Some((presented, step, place)) = event.and_then(parts) else {
             return (Why::NotPresented, WhyNot::NotItsTurn);
         };
         if !self.kept.wants(self.board, presented) {
@@ -103,15 +104,11 @@ impl<'a> Past<'a> {
             Some(line) => WhyNot::Left { bridge, line },
             None => WhyNot::NotAsked {
                 bridge,
-                first: self.first_left(lane, op),
+                first: self
+                    .heads
+                    .first_left(self.near_bus(lane), op, Place::Lane(lane)),
             },
         }
-    }
-
-    /// The first line that is left at which the lane takes the operation.
-    fn first_left(&self, lane: Lane, op: OpId) -> Option<u32> {
-        let bus = self.near_bus(lane);
-        self.heads.first_left(bus, op, Place::Lane(lane))
     }
 
     /// The bus on which the lane begins, which is that on which the other lane of its bridge ends.
@@ -161,7 +158,7 @@ impl<'a> Past<'a> {
             (Step::Take(_), Place::Lane(lane), Step::Latch) => self.no_completion(lane, presented),
             (Step::Take(_), Place::Lane(lane), Step::Take(outcome)) => WhyNot::CompletionIs {
                 outcome,
-                line: self.made_at(lane, presented.op),
+                line: self.ended_at(lane, presented.op).unwrap_or(0),
             },
             (Step::Read(_), Place::Target(target), Step::Read(value)) => WhyNot::TargetHolds {
                 target,
@@ -224,12 +221,7 @@ impl<'a> Past<'a> {
         Brought { op, line: first }
     }
 
-    /// The line at which the lane ended the operation.
-    fn made_at(&self, lane: Lane, op: OpId) -> u32 {
-        self.ended_at(lane, op).unwrap_or(0)
-    }
-
-    /// The same, where it did.
+    /// The line at which the lane ended the operation, where it did.
     fn ended_at(&self, lane: Lane, op: OpId) -> Option<u32> {
         let mut acts = self.taken.iter().rev();
         let found = acts.find(|act| act.op == op && ends(act) && self.is_by(act, lane));
@@ -327,8 +319,8 @@ fn back_of(lane: Lane) -> Lane {
     }
 }
 
-fn parts(event: &Event) -> Option<(Presented, Step, Place)> {
-    match *event {
+fn parts(event: Event) -> Option<(Presented, Step, Place)> {
+    match event {
         Event::Act {
             bus,
             by,

@@ -13,15 +13,14 @@ struct Head {
     end: usize,
 }
 
-/// The next act of a bus.
+/// The next act of a bus, by its place among all acts.
 #[derive(Clone, Copy, Debug)]
 pub struct Candidate {
     start: u64,
     pub end: u64,
     pub line: u32,
-    pub act: SeenAct,
-    pub event: Event,
-    head: usize,
+    place: u32,
+    head: u32,
     pub bus: u8,
     /// It was refused, and nothing happened on its bus since.
     is_refused: bool,
@@ -45,8 +44,9 @@ impl<'a> Heads<'a> {
         lines: &'a [Seen],
     ) -> Result<Heads<'a>, NoMemory> {
         let mut heads = Vec::new(alloc);
-        for (place, line) in acts.lines.iter().enumerate() {
-            if let Some(seen) = lines.get(*line as usize) {
+        for place in 0..acts.count() {
+            let line = acts.get(place).map(|act| act.line);
+            if let Some(seen) = line.and_then(|line| lines.get(line as usize)) {
                 list(&mut heads, seen.bus, place)?;
             }
         }
@@ -76,14 +76,20 @@ impl<'a> Heads<'a> {
         self.lines.get(..line as usize).unwrap_or(&[])
     }
 
-    /// The act at this place.
-    pub fn act(&self, place: u32) -> Option<SeenAct> {
-        self.acts.get(place as usize)
+    /// The act of the candidate.
+    pub fn act(&self, candidate: &Candidate) -> Option<SeenAct> {
+        self.acts.get(candidate.place as usize)
+    }
+
+    /// The same as an event.
+    pub fn event(&self, candidate: &Candidate) -> Option<Event> {
+        let act = self.act(candidate)?;
+        Some(act.event(self.seen(act.line)?))
     }
 
     /// How many acts there are in all.
     pub fn total(&self) -> usize {
-        self.acts.lines.len()
+        self.acts.count()
     }
 
     /// The next acts that no line which ended before keeps from being the next of all, by when
@@ -104,7 +110,7 @@ impl<'a> Heads<'a> {
         if candidate.is_refused {
             None
         } else {
-            Some(candidate.event)
+            self.event(candidate)
         }
     }
 
@@ -115,11 +121,12 @@ impl<'a> Heads<'a> {
         }
     }
 
-    /// The candidate at this place was taken: its bus goes on to the next act. The place of the act
-    /// among all.
+    /// The candidate at this place was taken: its bus goes on to the next act. The line of the act.
     pub fn take(&mut self, place: usize) -> u32 {
-        let head = self.candidates.get(place).map_or(0, |taken| taken.head);
-        let act = self.heads.get(head).map_or(0, |head| head.next);
+        let Some(Candidate { line, head, .. }) = self.candidates.get(place).copied() else {
+            return 0;
+        };
+        let head = head as usize;
         if let Some(head) = self.heads.get_mut(head) {
             head.next = head.next.saturating_add(1);
         }
@@ -127,7 +134,7 @@ impl<'a> Heads<'a> {
             Some(next) => put(&mut self.candidates, place, next),
             None => self.close(place),
         }
-        u32::try_from(act).unwrap_or(u32::MAX)
+        line
     }
 
     fn close(&mut self, place: usize) {
@@ -148,15 +155,13 @@ impl<'a> Heads<'a> {
     fn candidate(&self, place: usize) -> Option<Candidate> {
         let head = self.heads.get(place).filter(|head| head.next < head.end)?;
         let act = self.acts.get(head.next)?;
-        let event = *self.acts.events.get(head.next)?;
         let seen = self.seen(act.line)?;
         Some(Candidate {
             start: seen.start,
             end: seen.end,
             line: act.line,
-            act,
-            event,
-            head: place,
+            place: u32::try_from(head.next).ok()?,
+            head: u32::try_from(place).ok()?,
             bus: head.bus,
             is_refused: false,
         })

@@ -1,5 +1,5 @@
-//! A log of what was seen on the buses, a line a transaction, and what is said of one that is no
-//! run.
+//! A log of what was seen on the buses, a line a transaction, its acts and the run that they make,
+//! and what is said of one that is no run.
 #![tactic(auto)]
 
 mod bus_lines;
@@ -9,6 +9,7 @@ mod refusal;
 mod seen;
 mod seen_act;
 mod unseen;
+mod woven;
 
 pub use bus_lines::{BusLines, bump};
 pub use heads::{Candidate, Heads};
@@ -17,3 +18,4 @@ pub use refusal::{ActsTold, Brought, HeldPhase, Refused, RefusedLog, Retold, Unf
 pub use seen::{Addressed, Ending, LineWord, Log, Seen, Who};
 pub use seen_act::{LineActs, SeenAct};
 pub use unseen::{Counts, Note, Unseen};
+pub use woven::{Strand, Woven};

@@ -2,11 +2,11 @@
 use pci_command::OpId;
 
 /// A place below 2^32 - 1, or none.
-#[derive(Clone, Copy, PartialEq, Eq)]
+#[derive(Clone, Copy, Debug, PartialEq, Eq)]
 pub struct MaybePlace(u32);
 
 /// An operation of a program, by its first try, or none.
-#[derive(Clone, Copy, PartialEq, Eq)]
+#[derive(Clone, Copy, Debug, PartialEq, Eq)]
 pub struct MaybeOp {
     master: u16,
     index: u16,

@@ -1,6 +1,6 @@
-use Rattle.judge_next.specs.Course.{HasCourse}
+use Rattle.observe_order.specs.Going.{HasLanded}
 use Rattle.observe_order.proofs.ordering.go_on.Given as goal
 
--- it is a course
+-- the run goes on
 abbrev pub invariant-loop-act : goal.invariant-loop-act
-invariant-loop-act l = HasCourse l.tree l.course
+invariant-loop-act l = HasLanded l.tree l.run l.course

@@ -1,6 +1,6 @@
-use Rattle.judge_next.specs.Course.{HasCourse}
+use Rattle.observe_order.specs.Going.{HasLanded}
 use Rattle.observe_order.proofs.ordering.take_first.Given as goal
 
--- it is a course
+-- the run goes on
 abbrev pub invariant-loop-candidate : goal.invariant-loop-candidate
-invariant-loop-candidate l = HasCourse l.tree l.course
+invariant-loop-candidate l = HasLanded l.tree l.run l.course
