@@ -1,5 +1,5 @@
 -- What was read of a log, and found out of what was written, is what is told of both.
-use Rattle.std.proofs.Common.{◌≡◌, ℕ, List, Option, Some, None, Result, Ok, Err, refl, sym, ap, subst, ◌∙◌}
+use Rattle.std.proofs.Common.{◌≡◌, ◌<◌, ◌≤◌, ◌^◌, ℕ, List, length, arith, Option, Some, None, Result, Ok, Err, sym, ap, subst, ◌∙◌}
 use Rattle.std.specs.Prelude.{IsTrue, IfOk, IfErr}
 use Rattle.std.specs.Option.{option_map}
 use Rattle.board_model.specs.declared.board.Board.{Board}
@@ -21,20 +21,23 @@ use Rattle.program_status.specs.declared.status.BoardFault.{BoardFault}
 use Rattle.program_status.specs.declared.status.BoardFault.TheVariants.{Line}
 use Rattle.program_status.specs.declared.log.LogRefusal.{LogRefusal}
 use Rattle.program_status.specs.declared.log.LogExcess.{LogExcess}
-use Rattle.program_input.specs.Refusals.{tree_fault, RefusesBy}
+use Rattle.program_input.specs.Refusals.{tree_fault}
 use Rattle.program_input.specs.Boards.{RefusesTree, IsTreeOf}
 use Rattle.program_input.specs.Traces.{ReadsTree}
 use Rattle.program_input.specs.declared.trace.TreeTrace.{TreeTrace}
 use Rattle.trace_reader.specs.Traces.{trace_read}
 use Rattle.command_observe.specs.declared.reading.TreeLog.{TreeLog}
-use Rattle.command_observe.specs.declared.telling.ActsOfLog.{ActsOfLog}
+use Rattle.command_observe.specs.declared.telling.RunOfLog.{RunOfLog}
 use Rattle.command_observe.specs.declared.drafting.Untold.{Untold}
 use Rattle.command_observe.specs.declared.drafting.Untold.TheVariants as untolds
+use Rattle.observe_told.specs.declared.woven.Woven.{Woven}
+use Rattle.observe_told.specs.Woven.{events_of, IsWhole}
+use Rattle.observe_order.proofs.ActsLemmas.{same_acts}
 use Rattle.observe_order.specs.declared.judging.ActsVerdict.{ActsVerdict}
 use Rattle.observe_order.specs.declared.judging.ActsVerdict.TheVariants.{IsRun, Refused}
 use Rattle.command_observe.specs.Logs.{log_refusal, log_reading_refusal, RefusesLog, IsLogText, ReadsLog, TellsFault}
 use Rattle.command_observe.specs.Answers.{RefusesObserve, AnswersObserve, AnswersActs, TellsRun, TellsActs}
-use Rattle.command_observe.specs.Judging.{untold_status, IsUntold, ending_of, AreActsOf, HasActs, RunsActs, IsJudged, HoldsActs}
+use Rattle.command_observe.specs.Judging.{untold_status, IsUntold, ending_of, IsRunOf, IsJudged, HoldsActs}
 
 -- a fault of the text is told as it is read
 pub fault_refuses : (input : List ℕ) (fault : OrNoMemory LogFault) (status : Status) → Tells {A = Log} (Err fault) (log_read input) → TellsFault fault status → RefusesLog input status
@@ -119,34 +122,42 @@ pub untold_refuses : {A : Type 0} (input : List ℕ) (read : TreeLog) (found : R
 untold_refuses input read (Ok value) reads untold = tt
 untold_refuses input read (Err status) reads untold = of_log input status (record { log = read.log; reads = reads.reads; tree = reads.faultless }) untold
 
--- acts that are told of a log are of the input
-pub has_acts : (input : List ℕ) (read : TreeLog) (found : Result ActsOfLog Status) → ReadsLog input read → IfOk found (AreActsOf read.log) → IfOk found (HasActs input)
-has_acts input read (Ok found) reads of_log = record { log = read.log; reads = reads.reads; faultless = reads.faultless; of_log = of_log }
-has_acts input read (Err status) reads of_log = tt
-
--- a run of acts that a log tells of is one that it tells of
-tells_run : (log : Log) (found : ActsOfLog) (text : List ℕ) → AreActsOf log found → RunsActs found.tree found.acts text → TellsRun log text
-tells_run log found text of_log runs =
+-- what is read as the run tells it
+tells_run : (log : Log) (found : RunOfLog) (text : List ℕ) → IsRunOf log found → IsValid found.tree → trace_read text ≡ Ok (found.tree, events_of found.run) → TellsRun log text
+tells_run log found text is valid read =
     record {
       board = found.tree;
-      events = runs.events;
-      read_back = runs.read_back;
-      valid = runs.valid;
-      run = runs.run;
-      told = subst (λ acts. IsToldOf log found.tree acts) (sym runs.same_acts) of_log.told;
-      still = runs.still;
+      events = events_of found.run;
+      read_back = read;
+      valid = valid;
+      run = is.still.run;
+      told = is.told;
+      still = is.still.landed;
     }
 
--- what is written of them answers the input
-pub observes : {A : Type 0} (input : List ℕ) (found : ActsOfLog) (written : Result A Status) (items : A → List ℕ) → HasActs input found
-    → IfOk written (λ text. RunsActs found.tree found.acts (items text)) → IfOk written (λ text. AnswersObserve input (items text))
-observes input found (Ok text) items has runs = record { log = has.log; reads = has.reads; writes = tells_run has.log found (items text) has.of_log runs }
-observes input found (Err status) items has runs = tt
+pub tells : {A : Type 0} (log : Log) (found : RunOfLog) (written : Result A Status) (items : A → List ℕ) → IsRunOf log found → IsValid found.tree
+    → IfOk written (λ text. trace_read (items text) ≡ Ok (found.tree, events_of found.run)) → IfOk written (λ text. TellsRun log (items text))
+tells log found (Ok text) items is valid read = tells_run log found (items text) is valid read
+tells log found (Err status) items is valid read = tt
 
--- and where nothing is, it is a log that is refused
-pub observes_none : {A : Type 0} (input : List ℕ) (found : ActsOfLog) (written : Result A Status) → HasActs input found → IfErr written IsUntold → IfErr written (RefusesObserve input)
-observes_none input found (Ok text) has untold = tt
-observes_none input found (Err status) has untold = of_log input status (record { log = has.log; reads = has.reads; tree = has.faultless }) untold
+-- for want of memory nothing is told
+pub none_told : {A : Type 0} (written : Result A Status) → IfErr written (λ status. status ≡ NoMemory) → IfErr written IsUntold
+none_told (Ok text) is = tt
+none_told (Err status) is = subst IsUntold (sym is) tt
+
+-- what tells the log answers the input
+pub observes : {A : Type 0} (input : List ℕ) (read : TreeLog) (written : Result A Status) (items : A → List ℕ) → ReadsLog input read
+    → IfOk written (λ text. TellsRun read.log (items text)) → IfOk written (λ text. AnswersObserve input (items text))
+observes input read (Ok text) items reads tells = record { log = read.log; reads = reads.reads; writes = tells }
+observes input read (Err status) items reads tells = tt
+
+-- a run has few events
+pub few_events : (events : List Event) (count : ℕ) → length events ≤ count → count ≤ 4294967295 → length events < 2 ^ 32
+few_events events count bounded few = omega (arith, bounded, few)
+
+-- its acts are told, where those are that stand apart
+pub told_woven : (log : Log) (board : Board) (woven : Woven) → IsWhole woven → IsToldOf log board (acts_of woven.acts.items) → IsToldOf log board (acts_of (events_of woven))
+told_woven log board woven whole told = subst (IsToldOf log board) (sym (same_acts woven whole)) told
 
 pub acts_told : (input : List ℕ) (read : TreeLog) (found : Result Answered Status) → ReadsLog input read
     → IfOk found (λ answer. TellsActs read.log answer.text.items answer.ending) → IfOk found (λ answer. AnswersActs input answer.text.items answer.ending)

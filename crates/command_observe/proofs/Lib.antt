@@ -1,3 +1,2 @@
 pub mod ServedLemmas
 pub mod AnswerLemmas
-pub mod WritingLemmas

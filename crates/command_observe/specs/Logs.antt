@@ -1,7 +1,6 @@
 -- A log text that is read as a log of a valid board, or refused.
 use Rattle.std.specs.Prelude.{◌≡◌, ℕ, IsTrue, List, Option, Some, None, Result, Ok, Err}
 use Rattle.std.specs.Option.{option_map}
-use Rattle.board_model.specs.declared.board.Board.{Board}
 use Rattle.board_model.specs.WellFormed.{is_well_formed}
 use Rattle.text_faults.specs.declared.or_no_memory.OrNoMemory.{OrNoMemory}
 use Rattle.text_faults.specs.declared.or_no_memory.OrNoMemory.TheVariants as ors

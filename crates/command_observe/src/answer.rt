@@ -1,13 +1,13 @@
 ghost use Rattle.std.specs.Prelude.{◌≡◌, ◌<◌, ◌^◌, ℕ, length, IfOk, IfErr, IsTrue};
 ghost use Rattle.board_model.specs.WellFormed.{is_well_formed};
 ghost use Rattle.command_observe.specs.Answers.{AnswersObserve, AnswersActs, RefusesObserve};
-ghost use Rattle.command_observe.specs.Answers.{TellsActs};
-ghost use Rattle.command_observe.specs.Judging.{HasActs, IsUntold, ending_of};
+ghost use Rattle.command_observe.specs.Answers.{TellsRun, TellsActs};
+ghost use Rattle.command_observe.specs.Judging.{IsUntold, ending_of};
 
 use crate::drafting::line_at;
 use crate::holding::holds_acts;
 use crate::reading::{TreeLog, read_tree_log};
-use crate::telling::{ActsOfLog, acts_told};
+use crate::telling::run_told;
 use crate::writing::{Draft, draft_acts, text_of_run};
 use observe_order::ActsVerdict;
 use observe_told::Log;
@@ -16,27 +16,39 @@ use std::alloc::Global;
 
 /// The trace of a run that a log tells of, with all arrivals as early as can be. The input has
 /// fewer than 2^31 bytes.
+#[tactic(auto, using(crate::proofs::AnswerLemmas::read_refuses))]
 pub fn answer_observe(alloc: Global, input: &[u8]) -> Result<Vec<u8>, Status>
     requires { length input.now < 2 ^ 31 }
     ensures ok { IfOk result (λ text. AnswersObserve input.now text.items) }
     ensures err { IfErr result (RefusesObserve input.now) }
 {
-    let found = acts_of_input(alloc, input)?;
-    text_of_run(alloc, found)
+    let read = read_tree_log(alloc, input)?;
+    text_of_log(alloc, read)
 }
 
-/// The acts that the log of these bytes tells of. The log is let go before their run is made, and
-/// they before its text is, so that a line takes few bytes at any time.
+/// The same, where the input is let go as soon as it is read, so that a line takes fewer bytes.
 #[tactic(auto, using(crate::proofs::AnswerLemmas::read_refuses))]
-fn acts_of_input(alloc: Global, input: &[u8]) -> Result<ActsOfLog, Status>
-    requires { length input.now < 2 ^ 31 }
-    ensures ok { IfOk result (HasActs input.now) }
-    ensures err { IfErr result (RefusesObserve input.now) }
+pub fn answer_observe_owned(alloc: Global, input: Vec<u8>) -> Result<Vec<u8>, Status>
+    requires { length input.items < 2 ^ 31 }
+    ensures ok { IfOk result (λ text. AnswersObserve input.items text.items) }
+    ensures err { IfErr result (RefusesObserve input.items) }
 {
-    let read = read_tree_log(alloc, input)?;
-    let found = acts_told(alloc, &read);
+    let found = read_tree_log(alloc, input.as_slice());
+    drop(input);
+    let read = found?;
+    text_of_log(alloc, read)
+}
+
+/// The trace of a run that the log tells of. The log is let go before its text is written.
+fn text_of_log(alloc: Global, read: TreeLog) -> Result<Vec<u8>, Status>
+    requires { IsTrue (is_well_formed read.log.board) }
+    ensures ok { IfOk result (λ text. TellsRun read.log text.items) }
+    ensures err { IfErr result IsUntold }
+{
+    let told = run_told(alloc, &read);
     drop(read);
-    found
+    let found = told?;
+    text_of_run(alloc, found)
 }
 
 /// The trace of the acts that a log tells of, without arrivals: those of a run, or of one up to an

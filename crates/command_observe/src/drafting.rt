@@ -1,6 +1,8 @@
-//! What a log tells, as it was found. Of what was found nothing is claimed.
-ghost use Rattle.std.specs.Prelude.{IsTrue};
+//! What a log tells, as it was found. Of what was found nothing is claimed but that its events are
+//! a run of its board.
+ghost use Rattle.std.specs.Prelude.{IfOk, IsTrue};
 ghost use Rattle.board_model.specs.WellFormed.{is_well_formed};
+ghost use Rattle.observe_order.specs.Going.{EndsLanded};
 
 use crate::reading::TreeLog;
 use board_form::well_formed;
@@ -65,7 +67,9 @@ pub(crate) struct Told {
 
 /// What the log tells. Where its acts are no run, no Retry latched what went on when it began, as
 /// far as others may have: if that makes them a run, it is told.
-pub(crate) fn told_by(alloc: Global, read: &TreeLog) -> Result<Told, Untold> {
+pub(crate) fn told_by(alloc: Global, read: &TreeLog) -> Result<Told, Untold>
+    ensures { IfOk result (λ told. EndsLanded told.tree told.ordered.run) }
+{
     let told = told_with(alloc, read, Times::Meet)?;
     if told.ordered.refused().is_none() {
         return Ok(told);
@@ -87,7 +91,9 @@ pub(crate) fn told_by(alloc: Global, read: &TreeLog) -> Result<Told, Untold> {
     }
 }
 
-fn told_with(alloc: Global, read: &TreeLog, times: Times) -> Result<Told, Untold> {
+fn told_with(alloc: Global, read: &TreeLog, times: Times) -> Result<Told, Untold>
+    ensures { IfOk result (λ told. EndsLanded told.tree told.ordered.run) }
+{
     match tell(alloc, &read.tree, &read.log, times) {
         Ok(told) => Ok(told),
         Err(unfound) => Err(not_told(&read.log, read.tree.board(), unfound)),
@@ -95,7 +101,9 @@ fn told_with(alloc: Global, read: &TreeLog, times: Times) -> Result<Told, Untold
 }
 
 /// What a log of the board of this tree tells.
-pub(crate) fn tell(alloc: Global, tree: &Tree, log: &Log, times: Times) -> Result<Told, Unfound> {
+pub(crate) fn tell(alloc: Global, tree: &Tree, log: &Log, times: Times) -> Result<Told, Unfound>
+    ensures { IfOk result (λ told. EndsLanded told.tree told.ordered.run) }
+{
     let lines = log.lines.as_slice();
     let LogFound {
         board,
@@ -184,8 +192,7 @@ pub(crate) fn unheld(log: &Log) -> Untold {
     }
 }
 
-/// The number of the last line.
-pub(crate) fn last_number(log: &Log) -> u32 {
+fn last_number(log: &Log) -> u32 {
     log.lines.as_slice().last().map_or(1, |seen| seen.line)
 }
 

@@ -1,7 +1,7 @@
 //! `observe`: the run that a log tells of, or all acts of it, whether they are a run or not. How
-//! they are found is not trusted: acts are held against the log and then judged as all that they
-//! put in flight arrives, and what is printed of their run is read as it; a text of acts is read
-//! again, judged, and held against the log.
+//! they are found is not trusted: acts are judged as all that they put in flight arrives, and held
+//! against the log, and what is printed of their run is read as it; a text of acts is read again,
+//! judged, and held against the log.
 #![tactic(auto)]
 
 mod answer;
@@ -13,5 +13,5 @@ mod retelling;
 mod telling;
 mod writing;
 
-pub use answer::{answer_acts, answer_observe};
+pub use answer::{answer_acts, answer_observe, answer_observe_owned};
 pub use retelling::{Retelling, retell};

@@ -4,7 +4,7 @@ use crate::reading::{TreeLog, read_tree_log};
 use board_tree::Tree;
 use observe_found::Times;
 use observe_order::Ordered;
-use observe_told::{ActsTold, LineActs, Log, RefusedLog, Retold, Unfound};
+use observe_told::{ActsTold, Log, RefusedLog, Retold, Unfound};
 use pci_command::{List, NoMemory};
 use program_status::Status;
 use std::alloc::Global;
@@ -77,9 +77,12 @@ fn with_acts(alloc: Global, log: Log, told: Told) -> Retelling {
 
 /// The acts up to the one that is refused, and those behind it: none where none is.
 fn acts_told(alloc: Global, ordered: Ordered) -> ActsTold {
-    let Ordered { acts, stopped } = ordered;
-    let LineActs { events, lines } = acts;
-    drop(events);
+    let Ordered {
+        run,
+        lines,
+        stopped,
+    } = ordered;
+    drop(run);
     match stopped {
         Some(told) => told,
         None => ActsTold {

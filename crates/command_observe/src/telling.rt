@@ -1,37 +1,37 @@
-//! The acts that a log tells of, with what is said of them.
+//! The run that a log tells of, with what is said of it.
 ghost use Rattle.std.specs.Prelude.{◌<◌, ◌^◌, length, string_bytes, IfOk, IfErr, IsTrue};
 ghost use Rattle.board_model.specs.WellFormed.{is_well_formed};
 ghost use Rattle.law_early.specs.Early.{acts_of};
 ghost use Rattle.observe_log.specs.Told.{Tells};
+ghost use Rattle.observe_told.specs.Woven.{events_of, IsWhole};
 ghost use Rattle.trace_roundtrip.specs.Comments.{AreComments};
-ghost use Rattle.command_observe.specs.Judging.{AreActsOf, IsUntold};
+ghost use Rattle.command_observe.specs.Judging.{IsRunOf, IsUntold};
 
-use crate::drafting::{Told, Untold, last_number, number_of, told_by, unheld};
+use crate::drafting::{Told, Untold, number_of, told_by, unheld};
 use crate::notes::comments;
 use crate::reading::TreeLog;
 use board_tree::Tree;
 use history_model::Event;
 use observe_log::is_told;
-use observe_told::{LineActs, Log, Unseen};
-use pci_command::{List, NoMemory};
+use observe_told::{Log, Unseen, Woven};
+use pci_command::NoMemory;
 use program_status::{LogRefusal, Status};
 use std::alloc::Global;
 use trace_roundtrip::are_comments;
 
-/// Acts of the board of a tree, what is said of them, and the number of the last line of their log.
+/// A run of the board of a tree, and what is said of it.
 #[derive(Drop)]
-pub(crate) struct ActsOfLog {
+pub(crate) struct RunOfLog {
     pub(crate) tree: Tree,
-    pub(crate) acts: List<Event>,
+    pub(crate) run: Woven,
     pub(crate) said: String,
-    pub(crate) last: u32,
 }
 
-/// The acts that the log tells of, where none was refused as they were put in order.
+/// The run that the log tells of.
 #[tactic(auto, using(crate::proofs::AnswerLemmas::is_untold))]
-pub(crate) fn acts_told(alloc: Global, read: &TreeLog) -> Result<ActsOfLog, Status>
+pub(crate) fn run_told(alloc: Global, read: &TreeLog) -> Result<RunOfLog, Status>
     requires { IsTrue (is_well_formed read.now.log.board) }
-    ensures ok { IfOk result (AreActsOf read.now.log) }
+    ensures ok { IfOk result (IsRunOf read.now.log) }
     ensures err { IfErr result IsUntold }
 {
     let told = told_by(alloc, read)?;
@@ -43,12 +43,8 @@ pub(crate) fn acts_told(alloc: Global, read: &TreeLog) -> Result<ActsOfLog, Stat
                 ordered,
             } = told;
             drop(unseen);
-            Ok(ActsOfLog {
-                tree,
-                acts: List::from_vec(ordered.acts.events),
-                said,
-                last: last_number(&read.log),
-            })
+            let run = ordered.run;
+            Ok(RunOfLog { tree, run, said })
         }
         Err(untold) => {
             drop(told);
@@ -58,10 +54,13 @@ pub(crate) fn acts_told(alloc: Global, read: &TreeLog) -> Result<ActsOfLog, Stat
 }
 
 /// What is said of what was found, where none of its acts was refused and the log tells of them.
+#[tactic(auto, using(crate::proofs::AnswerLemmas::few_events, crate::proofs::AnswerLemmas::told_woven))]
 fn said_of_run(alloc: Global, log: &Log, told: &Told) -> Result<String, Untold>
-    requires { IsTrue (is_well_formed log.now.board) }
-    ensures few { IfOk result (λ _. length told.now.ordered.acts.events.items < 2 ^ 32) }
-    ensures told { IfOk result (λ _. Tells log.now told.now.tree (acts_of told.now.ordered.acts.events.items)) }
+    requires formed { IsTrue (is_well_formed log.now.board) }
+    requires whole { IsWhole told.now.ordered.run }
+    ensures few { IfOk result (λ _. length (events_of told.now.ordered.run) < 2 ^ 32) }
+    ensures told { IfOk result
+        (λ _. Tells log.now told.now.tree (acts_of (events_of told.now.ordered.run))) }
     ensures comments { IfOk result (λ said. AreComments (string_bytes said)) }
 {
     let ordered = &told.ordered;
@@ -71,11 +70,11 @@ fn said_of_run(alloc: Global, log: &Log, told: &Told) -> Result<String, Untold>
             refusal: LogRefusal::Cause(refused.why),
         });
     }
-    let LineActs { events, lines } = &ordered.acts;
-    if events.len() > 0xffff_ffff {
+    if ordered.run.count() > 0xffff_ffff {
         return Err(unheld(log));
     }
-    if !is_told_by(alloc, log, &told.tree, events.as_slice(), lines.as_slice())? {
+    let (acts, lines) = (ordered.run.acts.as_slice(), ordered.lines.as_slice());
+    if !is_told_by(alloc, log, &told.tree, acts, lines)? {
         return Err(unheld(log));
     }
     said_of(alloc, log, &told.tree, &told.unseen)

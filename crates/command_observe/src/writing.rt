@@ -1,23 +1,26 @@
 //! The texts that are written for a log, with what is said of it behind the first line of the
 //! board.
-ghost use Rattle.std.specs.Prelude.{◌<◌, ◌^◌, length, string_bytes, IfOk, IfErr, IsTrue};
+ghost use Rattle.std.specs.Prelude.{◌≡◌, ◌<◌, ◌^◌, length, string_bytes, Ok, IfOk, IfErr, IsTrue};
 ghost use Rattle.std.specs.List.{All};
-ghost use Rattle.judge_fill.specs.Filling.{Fills};
+ghost use Rattle.board_model.specs.Valid.{IsValid};
 ghost use Rattle.trace_text.specs.Events.{HasLine};
+ghost use Rattle.trace_reader.specs.Traces.{trace_read};
 ghost use Rattle.trace_roundtrip.specs.Comments.{AreComments};
-ghost use Rattle.command_observe.specs.Judging.{RunsActs, IsUntold};
+ghost use Rattle.trace_roundtrip.specs.Printed.{IsTraceOf};
+ghost use Rattle.observe_told.specs.Woven.{events_of};
+ghost use Rattle.observe_order.specs.Going.{EndsLanded};
+ghost use Rattle.program_status.specs.declared.status.Status.TheVariants.{NoMemory};
 
 use crate::drafting::{Told, Untold, told_by, unheld};
 use crate::reading::TreeLog;
-use crate::telling::{ActsOfLog, said_of};
+use crate::telling::{RunOfLog, said_of};
 use board_model::Board;
 use board_tree::Tree;
 use history_model::Event;
-use judge_fill::{Unfilled, fill};
 use observe_order::Ordered;
-use observe_told::{ActsTold, LineActs, Log, Unseen};
+use observe_told::{ActsTold, Log, Unseen, Woven};
 use pci_command::List;
-use program_status::{LogRefusal, Status};
+use program_status::Status;
 use std::alloc::Global;
 use trace_roundtrip::{run_text, with_comments};
 use trace_text::{has_line, print_trace};
@@ -29,55 +32,40 @@ pub(crate) struct Draft {
     pub(crate) lines: List<u32>,
 }
 
-/// The trace text of the run of these acts in which all arrives as early as can be.
-#[tactic(auto, using(crate::proofs::WritingLemmas::commented))]
-pub(crate) fn text_of_run(alloc: Global, found: ActsOfLog) -> Result<Vec<u8>, Status>
-    requires few { length found.acts < 2 ^ 32 }
+/// The trace text of the run, which is read as this run.
+pub(crate) fn text_of_run(alloc: Global, found: RunOfLog) -> Result<Vec<u8>, Status>
+    requires run { EndsLanded found.tree found.run }
+    requires few { length (events_of found.run) < 2 ^ 32 }
     requires comments { AreComments (string_bytes found.said) }
-    ensures ok { IfOk result (λ text. RunsActs found.tree found.acts text.items) }
-    ensures err { IfErr result IsUntold }
+    ensures valid { IsValid found.tree }
+    ensures read { IfOk result
+        (λ text. trace_read text.items ≡ Ok (found.tree, events_of found.run)) }
+    ensures err { IfErr result (λ status. status ≡ NoMemory) }
 {
-    let ActsOfLog {
-        tree,
-        acts,
-        said,
-        last,
-    } = found;
-    let printed = printed_run(alloc, &tree, acts, last);
+    let RunOfLog { tree, run, said } = found;
+    let _valid = tree.board();
+    let printed = printed_run(alloc, &tree, run);
     drop(tree);
     let text = printed?;
     let whole = with_comments(alloc, text.as_slice(), said.as_bytes())?;
     Ok(whole)
 }
 
-/// The same without comments. The acts are let go before it is written.
-#[tactic(auto, using(crate::proofs::WritingLemmas::runs_acts))]
-fn printed_run(alloc: Global, tree: &Tree, acts: List<Event>, last: u32) -> Result<List<u8>, Status>
-    requires { length acts < 2 ^ 32 }
-    ensures ok { IfOk result (RunsActs tree.now acts) }
-    ensures err { IfErr result IsUntold }
+/// The same without comments. What the run was kept as is let go before it is written.
+fn printed_run(alloc: Global, tree: &Tree, run: Woven) -> Result<List<u8>, Status>
+    requires run { EndsLanded tree.now run }
+    requires few { length (events_of run) < 2 ^ 32 }
+    ensures ok { IfOk result (IsTraceOf tree.now (events_of run)) }
+    ensures err { IfErr result (λ status. status ≡ NoMemory) }
 {
-    let whole = run_of(alloc, tree, acts, last)?;
-    match run_text(alloc, tree.board(), whole.as_slice()) {
+    let events = run.events(alloc);
+    drop(run);
+    let Ok(events) = events else {
+        return Err(Status::NoMemory);
+    };
+    match run_text(alloc, tree.board(), events.as_slice()) {
         Ok(text) => Ok(text),
         Err(_) => Err(Status::NoMemory),
-    }
-}
-
-/// The run of these acts in which all arrives as early as can be. Where there is none, what was
-/// found is told as no run at the last line of the log.
-fn run_of(alloc: Global, tree: &Tree, acts: List<Event>, last: u32) -> Result<List<Event>, Status>
-    requires { length acts < 2 ^ 32 }
-    ensures ok { IfOk result (Fills tree.now acts) }
-    ensures err { IfErr result IsUntold }
-{
-    match fill(alloc, tree, acts.as_slice()) {
-        Ok(whole) => Ok(whole),
-        Err(Unfilled::NotRun { .. }) => Err(Status::NotTold {
-            line: last,
-            refusal: LogRefusal::NoAct,
-        }),
-        Err(Unfilled::NoMemory) => Err(Status::NoMemory),
     }
 }
 
@@ -98,12 +86,16 @@ pub(crate) fn draft_acts(alloc: Global, read: &TreeLog) -> Result<Draft, Untold>
 
 /// All acts, and the places of their lines in the log.
 fn all_acts(ordered: Ordered) -> (List<Event>, List<u32>) {
-    let Ordered { acts, stopped } = ordered;
+    let Ordered {
+        run,
+        lines,
+        stopped,
+    } = ordered;
     match stopped {
         Some(ActsTold { acts, lines, .. }) => (acts, lines),
         None => {
-            let LineActs { events, lines } = acts;
-            (List::from_vec(events), List::from_vec(lines))
+            let Woven { acts, .. } = run;
+            (List::from_vec(acts), List::from_vec(lines))
         }
     }
 }

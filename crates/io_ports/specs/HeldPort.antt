@@ -13,6 +13,8 @@ pub record HeldState : Type 0 where
   pub fails : Bool
   -- how many calls failed
   pub faults : ℕ
+  -- it lends them to nobody, and gives them up to who asks
+  pub gives : Bool
 
 -- the source after a call
 abbrev pub held_after : HeldState → Result ℕ Failed → HeldState

@@ -1,4 +1,4 @@
-ghost use Rattle.std.specs.Prelude.{◌≡◌, ◌<◌, ◌≤◌, vec_len, IfOk};
+ghost use Rattle.std.specs.Prelude.{◌≡◌, ◌<◌, ◌≤◌, true, false, vec_len, IfOk};
 ghost use Rattle.io_ports.specs.HeldPort.{IsReadAhead, ReadsOn};
 
 use crate::counts::one_more;
@@ -8,6 +8,7 @@ use crate::{Bytes, Failed, Source};
 use pci_command::{List, NoMemory};
 use std::alloc::Global;
 use std::marker::Model;
+use std::mem::replace;
 
 /// A source over bytes that were read before. It gives them all, and where the reading of them
 /// failed, it fails at their end, at each call.
@@ -17,6 +18,8 @@ pub struct HeldSource {
     given: usize,
     fails: bool,
     faults: u64,
+    /// Whether it gives its bytes up where it is asked to.
+    gives: bool,
 }
 
 impl Model for HeldSource {
@@ -30,6 +33,7 @@ impl Model for HeldSource {
       rest = drop source.given source.bytes;
       fails = source.fails;
       faults = source.faults;
+      gives = source.gives;
     } };
 
     ghost invariant = { λ source. source.given ≤ length source.bytes };
@@ -38,13 +42,20 @@ impl Model for HeldSource {
 impl HeldSource {
     /// A source of these bytes, which fails at their end or does not.
     pub fn new(bytes: Bytes, fails: bool) -> HeldSource
-        ensures { result ≡ record { bytes = bytes; rest = bytes; fails = fails; faults = 0 } }
+        ensures { result ≡ record {
+          bytes = bytes;
+          rest = bytes;
+          fails = fails;
+          faults = 0;
+          gives = false;
+        } }
     {
         HeldSource {
             bytes,
             given: 0,
             fails,
             faults: 0,
+            gives: false,
         }
     }
 
@@ -59,7 +70,8 @@ impl HeldSource {
             (S.faults source.old) (S.faults source.new) most) }
     {
         let mut buffer = zeros(alloc)?;
-        let mut bytes = Vec::new(alloc);
+        // room for all that may come, so that it never moves: what is not filled is not taken
+        let mut bytes = Vec::with_capacity(alloc, most)?;
         'turns: while bytes.len() < most {
             match read_on(source, &mut buffer, &mut bytes, most)? {
                 None => return Ok(HeldSource::new(List::from_vec(bytes), true)),
@@ -70,7 +82,14 @@ impl HeldSource {
         Ok(HeldSource::new(List::from_vec(bytes), false))
     }
 
-    /// All its bytes, given or not.
+    /// Has it give its bytes up where it is asked to: who needs them later can read them again.
+    pub fn let_go(&mut self)
+        ensures { self.new ≡ record self.old { gives = true } }
+    {
+        self.gives = true;
+    }
+
+    /// All its bytes, given or not. None where it gave them up.
     pub fn bytes(&self) -> &[u8]
         ensures { result.now ≡ self.now.bytes }
     {
@@ -80,7 +99,7 @@ impl HeldSource {
 
 impl Source for HeldSource {
     ghost use Rattle.std.specs.Prelude.{Some, true, [], ◌≡◌, ◌≤◌, ◌↔◌, min, length, take, IfOk};
-    ghost use Rattle.std.specs.Prelude.{IsErr, OnErr, IfSome, is_some, not};
+    ghost use Rattle.std.specs.Prelude.{IsErr, OnErr, IfSome, is_some, not, ◌&&◌};
     ghost use Rattle.std.specs.Io.{ReadsAtMost};
     ghost use Rattle.std.specs.Io.KnownBytes.{ReadConsumes};
     ghost use Rattle.io_ports.specs.Faults.{Rose};
@@ -90,7 +109,7 @@ impl Source for HeldSource {
 
     ghost faults = { λ source. source.faults };
 
-    ghost lends = { λ source. not source.fails };
+    ghost lends = { λ source. not source.fails && not source.gives };
 
     fn read(&mut self, buf: &mut [u8]) -> Result<usize, Failed>
         ensures bound { ReadsAtMost result buf.new }
@@ -118,9 +137,9 @@ impl Source for HeldSource {
     fn lent(&self) -> Option<&[u8]>
         ensures lent { IfSome result (λ bytes. Some self.now.rest ≡ Some bytes.now) }
         // Where the reading failed it lends nothing, so that the fault is told at the end.
-        ensures lends { is_some result ≡ not self.now.fails }
+        ensures lends { is_some result ≡ not self.now.fails && not self.now.gives }
     {
-        if self.fails {
+        if self.fails || self.gives {
             return None;
         }
         let (_, rest) = self.bytes.as_slice().split_at(self.given);
@@ -128,10 +147,18 @@ impl Source for HeldSource {
     }
 
     fn end(&mut self)
-        ensures ends { not self.old.fails ≡ true → Some self.new.rest ≡ Some [] }
+        ensures ends { not self.old.fails && not self.old.gives ≡ true → Some self.new.rest ≡ Some [] }
         ensures counted { self.old.faults ≤ self.new.faults }
     {
         self.given = self.bytes.as_slice().len();
+    }
+
+    fn give_up(&mut self, alloc: Global) -> Option<Bytes> {
+        if !self.gives || self.fails || self.given > 0 {
+            return None;
+        }
+        let none = List::from_vec(Vec::new(alloc));
+        Some(replace(&mut self.bytes, none))
     }
 }
 

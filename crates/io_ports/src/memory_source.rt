@@ -3,6 +3,7 @@ ghost use Rattle.std.specs.Prelude.{◌≡◌, ◌<◌, [], ◌++◌, min, lengt
 use crate::counts::{is_listed, one_more};
 use crate::{Bytes, Failed, Source};
 use pci_command::List;
+use std::alloc::Global;
 use std::marker::Model;
 
 /// A source over bytes in memory, which gives at most so many of them in one call and fails at
@@ -102,6 +103,10 @@ impl Source for MemorySource {
         ensures ends { false ≡ true → Some self.new.rest ≡ Some [] }
         ensures counted { self.old.faults ≤ self.new.faults }
     {}
+
+    fn give_up(&mut self, _alloc: Global) -> Option<Bytes> {
+        None
+    }
 }
 
 /// Copies bytes from the front to the front, as many as all three allow.

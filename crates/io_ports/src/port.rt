@@ -1,4 +1,4 @@
-ghost use Rattle.std.specs.Prelude.{ℕ, Bool, true, ◌≡◌, ◌≤◌, List, [], Option, Some, IfSome, is_some};
+ghost use Rattle.std.specs.Prelude.{ℕ, Bool, true, ◌≡◌, ◌≤◌, List, [], Option, Some, IfSome, IfNone, is_some};
 ghost use Rattle.std.specs.Prelude.{OnErr};
 ghost use Rattle.std.specs.Io.{ReadsAtMost, WritesAtMost};
 ghost use Rattle.std.specs.Io.KnownBytes.{ReadConsumes, WriteAppends};
@@ -7,6 +7,7 @@ ghost use Rattle.io_ports.specs.Port.{TakesSome};
 
 use crate::Failed;
 use pci_command::List;
+use std::alloc::Global;
 
 /// A list of bytes.
 pub type Bytes = List<u8>;
@@ -38,6 +39,13 @@ pub trait Source {
     /// Gives at once all that is lent.
     fn end(&mut self)
         ensures ends { lends self.old ≡ true → held self.new ≡ Some [] }
+        ensures counted { faults self.old ≤ faults self.new };
+
+    /// Gives at once all that it has, and keeps none of it, where it does not need it any more.
+    fn give_up(&mut self, alloc: Global) -> Option<Bytes>
+        ensures given { IfSome result (λ bytes. held self.old ≡ Some bytes) }
+        ensures ended { IfSome result (λ _. held self.new ≡ Some []) }
+        ensures stays { IfNone result (self.new ≡ self.old) }
         ensures counted { faults self.old ≤ faults self.new };
 }
 

@@ -4,7 +4,8 @@ ghost use Rattle.std.specs.Io.{ReadsAtMost};
 ghost use Rattle.std.specs.Io.KnownBytes.{ReadConsumes};
 
 use crate::counts::one_more;
-use crate::{Failed, Source};
+use crate::{Bytes, Failed, Source};
+use std::alloc::Global;
 use std::io::{ErrorKind, Read};
 use std::marker::Model;
 
@@ -91,6 +92,10 @@ impl<R: Read> Source for ReadPort<R> {
         ensures ends { false ≡ true → option_and_then R.remaining self.new.reader ≡ Some [] }
         ensures counted { self.old.faults ≤ self.new.faults }
     {}
+
+    fn give_up(&mut self, _alloc: Global) -> Option<Bytes> {
+        None
+    }
 }
 
 /// A reader, if there is one, is asked so often at most for one read that signals interrupt.

@@ -45,6 +45,24 @@ pub fn read_all<S: Source>(
         → Rose (S.faults source.old) (S.faults source.new) }
     ensures counted { S.faults source.old ≤ S.faults source.new }
 {
+    match source.give_up(alloc) {
+        Some(bytes) if bytes.as_slice().len() <= limit => Ok(bytes.into_vec()),
+        Some(_bytes) => Err(ReadError::TooLong),
+        None => read_pieces(alloc, source, limit),
+    }
+}
+
+/// The same, read piece by piece.
+fn read_pieces<S: Source>(alloc: Global, source: &mut S, limit: usize) -> Result<Vec<u8>, ReadError>
+    requires { limit < 2 ^ 32 }
+    ensures whole { IfOk result (λ bytes.
+        ReadsWhole (S.held source.old) (S.held source.new) limit bytes.items) }
+    ensures too_long { result ≡ Err ReadError.TooLong
+        → IfSome (S.held source.old) (λ held. limit < length held) }
+    ensures failed { result ≡ Err ReadError.Failed
+        → Rose (S.faults source.old) (S.faults source.new) }
+    ensures counted { S.faults source.old ≤ S.faults source.new }
+{
     let mut buffer = zeros(alloc)?;
     let mut bytes = Vec::new(alloc);
     'turns: while bytes.len() <= limit {

@@ -2,6 +2,7 @@ ghost use Rattle.std.specs.Prelude.{◌≡◌};
 
 use crate::memory_source::give;
 use crate::{Bytes, Failed, Source};
+use std::alloc::Global;
 use std::marker::Model;
 
 /// A source of bytes in memory that never fails. Each call gives as much as it can.
@@ -73,5 +74,9 @@ impl Source for SureSource {
         ensures counted { 0 ≤ 0 }
     {
         self.given = self.bytes.as_slice().len();
+    }
+
+    fn give_up(&mut self, _alloc: Global) -> Option<Bytes> {
+        None
     }
 }

@@ -55,6 +55,27 @@ pub(crate) fn answer<R: Threads + Sync, G: Gate + Sync>(
     }
 }
 
+/// The same of an input that was read for it: `observe` lets it go as soon as it has its log.
+pub(crate) fn answer_owned<R: Threads + Sync, G: Gate + Sync>(
+    rt: &R,
+    alloc: Global,
+    form: Form,
+    words: &[String],
+    input: Vec<u8>,
+    gate: &G,
+) -> Result<Answered, Status>
+    requires short { length input.items < 2 ^ 31 }
+    requires given { IsGiven form input.items }
+    ensures ok { IfOk result (λ answer. AnswersTo form (map string_bytes words.now) input.items
+        answer.text.items answer.ending) }
+    ensures err { IfErr result (Refuses form (map string_bytes words.now) input.items) }
+{
+    match form {
+        Form::Observe => done(command_observe::answer_observe_owned(alloc, input)),
+        _ => answer(rt, alloc, form, words, input.as_slice(), gate),
+    }
+}
+
 /// Of the other words each text ends with `Done`.
 fn done(text: Result<Vec<u8>, Status>) -> Result<Answered, Status>
     ensures ok { IfOk result (λ answer. (text ≡ Ok answer.text) × (answer.ending ≡ Status.Done)) }

@@ -9,7 +9,7 @@ ghost use Rattle.pcitree.specs.Ends.{ReadsInput, AnswersInput, RefusesInput, Fin
 ghost use Rattle.pcitree.specs.Stops.{StopsAnswering, StopsServing, StopsRunning};
 ghost use Rattle.program_words.specs.Shapes.{parts_of};
 
-use crate::answering::answer;
+use crate::answering::{answer, answer_owned};
 use crate::words::{form_of, misfit, number_of};
 use command_runs::{
     Gate, finished_traces_are_complete, written_devices_are_complete, written_runs_are_complete,
@@ -173,7 +173,7 @@ fn read_and_answer<R: Threads + Sync, S: Source, G: Gate + Sync>(
         return answered;
     }
     let input = read_input(alloc, form, source)?;
-    answer(rt, alloc, form, words, &input, gate)
+    answer_owned(rt, alloc, form, words, input, gate)
 }
 
 /// Reads an input to its end.

@@ -65,19 +65,37 @@ fn misfit(rt: &HostRuntime, words: &[String], word: u32) -> Status {
 fn run<R: Threads + Sync>(rt: &HostRuntime, threads: &R, words: &[String]) -> Status {
     let name = file_name(words);
     let (file, reason) = open(rt, name);
+    // a log is let go once it is read, where it can be read again, as no pipe can
+    let is_file = |file: &File| file.metadata().is_ok_and(|data| data.is_file());
+    let is_log = matches!(words, [word, _file] if word.as_str() == "observe");
+    let can_let_go = is_log && file.as_ref().is_some_and(is_file);
     let mut port = ReadPort::new(file);
     let Ok(mut source) = HeldSource::read_ahead(rt.alloc(), &mut port, input_limit(words) + 1)
     else {
         return status_only(rt, Status::NoMemory);
     };
+    if can_let_go {
+        source.let_go();
+    }
     let reason = reason.or(port.reason());
     let mut sink = WritePort::new(rt.stdout());
     let status = pcitree(threads, rt.alloc(), words, &mut source, &mut sink, &NoGate);
     if status != Status::Done {
         let reason = reason.or(sink.reason());
+        let source = again(rt, words, name, source);
         report(rt, words, name, source.bytes(), status, reason);
     }
     status
+}
+
+/// The source with its bytes: where the call let them go, with those that the file has now.
+fn again(rt: &HostRuntime, words: &[String], name: &str, source: HeldSource) -> HeldSource {
+    if !source.bytes().is_empty() {
+        return source;
+    }
+    let mut port = ReadPort::new(open(rt, name).0);
+    let most = input_limit(words) + 1;
+    HeldSource::read_ahead(rt.alloc(), &mut port, most).unwrap_or(source)
 }
 
 /// The name of the file to be read, if the words are of a form that reads one.
