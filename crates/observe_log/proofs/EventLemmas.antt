@@ -6,7 +6,7 @@ use Rattle.std.proofs.lemmas.Option.{slice_get_within}
 use Rattle.history_model.specs.declared.event.Event.{Event}
 use Rattle.history_model.specs.declared.event.Event.TheVariants.{Act, Arrive}
 use Rattle.law_early.specs.Early.{acts_of}
-use Rattle.observe_log.specs.Told.{presents, InTurn, IsBegun}
+use Rattle.observe_log.specs.Told.{presents, IsBegun}
 use Rattle.observe_log.specs.Checks.{is_act, AreBegun}
 
 -- what is left of a list, by its first element

@@ -1,6 +1,8 @@
 pub mod WordLemmas
 pub mod PlainLemmas
 pub mod QuickLemmas
+pub mod FrontLemmas
+pub mod InitiatorLemmas
 pub mod DataLemmas
 pub mod EndLemmas
 pub mod PartLemmas

@@ -1,8 +1,10 @@
 -- Lines without a comment, and words that stand alone.
-use Rattle.std.proofs.Common.{◌≡◌, ℕ, ◌+◌, ◌-◌, ◌<◌, ◌≤◌, Bool, true, false, cond, ltb, List, [], ◌∷◌, length, take, drop, get_or, Option, Some, Bor, refl, ap, sym, subst, ◌∙◌, arith}
+use Rattle.std.proofs.Common.{◌≡◌, ℕ, ◌+◌, ◌-◌, ◌<◌, ◌≤◌, Bool, true, false, not, cond, ltb, eq-eqb, List, [], ◌∷◌, ◌++◌, length, take, drop, get_or, refl, ap, sym, subst, ◌∙◌, arith}
 use Rattle.std.specs.List.{All, position_or_len, slice_split, onto_first, filter, list_all}
+use Rattle.std.proofs.lemmas.Bool.{and_parts}
 use Rattle.std.proofs.lemmas.Bool.Decides.{nat_tests}
-use Rattle.std.proofs.lemmas.List.{take_all, length-take, length-take-le, get_or-take, get_or-drop, length-drop}
+use Rattle.std.proofs.lemmas.List.{take_all, take-append-drop, length-take, length-take-le, get_or-take, get_or-drop, length-drop}
+use Rattle.std.proofs.lemmas.List.Folds.{prefix_len-append}
 use Rattle.std.proofs.lemmas.List.Elements.{All-nil, All-cons, All-head, All-tail}
 use Rattle.std.proofs.lemmas.List.Sums.{position_or_len_is, fails_before_first, list_all-from_AllPass}
 use Rattle.std.proofs.lemmas.List.Splits.{slice_split_none}
@@ -10,7 +12,7 @@ use Rattle.board_text.specs.Lines.{is_newline, is_allowed, lines_of}
 use Rattle.board_text.specs.Tokens.{is_separator, is_comment, uncommented, words_in, words_of}
 use Rattle.board_text.proofs.CutLemmas.{next_step}
 use Rattle.board_text.proofs.NextLemmas.{is_word, kept, words_few}
-use Rattle.observe_log.specs.Plain.{is_plain, is_no_plain, IsPlain, StandsAlone, with_next}
+use Rattle.observe_log.specs.Plain.{is_plain, is_no_plain, IsPlain, StandsAlone}
 
 -- A byte of one kind.
 
@@ -107,10 +109,11 @@ front_stands line text n is front =
     words_stand text (ap uncommented whole ∙ uncommented_again line ∙ sym whole)
 
 -- and those behind one of them
-pub rest_stands : (next : Option (Bor (List ℕ))) (word : Bor (List ℕ)) (behind : List (List ℕ)) → next ≡ Some word → All StandsAlone (with_next next behind) → All StandsAlone behind
-rest_stands next word behind is all =
-    let here : All StandsAlone (with_next (Some word) behind) = subst (λ (n : Option (Bor (List ℕ))). All StandsAlone (with_next n behind)) is all in
-    All-tail StandsAlone word.now behind here
+pub rest_stands : (words behind : List (List ℕ)) (word : List ℕ) → words ≡ word ∷ behind → All StandsAlone words → All StandsAlone behind
+rest_stands words behind word is all = All-tail StandsAlone word behind (subst (All StandsAlone) is all)
+
+pub first_stands : (words behind : List (List ℕ)) (word : List ℕ) → words ≡ word ∷ behind → All StandsAlone words → StandsAlone word
+first_stands words behind word is all = All-head StandsAlone word behind (subst (All StandsAlone) is all)
 
 -- No more words than bytes, but for one.
 
@@ -158,6 +161,29 @@ plain_is rest line size is inside front short =
       whole = uncommented_all line (λ k d here. is_uncut (get_or line k d) (all k d here));
       short = omega (arith, long);
     }
+
+-- Bytes that are plain, and those behind them.
+
+stops_not : (xs : List ℕ) → list_all is_plain xs ≡ true → position_or_len is_no_plain xs ≡ length xs
+stops_not [] all = refl
+stops_not (x ∷ xs) all =
+    let parts = and_parts (is_plain x) (list_all is_plain xs) all in
+    let rest = stops_not xs parts.1 in
+    rw parts.0 (omega (arith, rest))
+
+in_two : (left these others : List ℕ) (i : ℕ) → these ≡ take i left → others ≡ drop i left → list_all is_plain these ≡ true → position_or_len is_no_plain left ≡ length these + position_or_len is_no_plain others
+in_two left these others i front back all =
+    let whole : these ++ others ≡ left = ap (λ (l : List ℕ). l ++ others) front ∙ ap (λ (l : List ℕ). take i left ++ l) back ∙ take-append-drop i left in
+    ap (position_or_len is_no_plain) (sym whole) ∙ prefix_len-append (λ x. not (is_no_plain x)) these others
+    ∙ ap (λ (b : Bool). cond b (length these + position_or_len is_no_plain others) (position_or_len is_no_plain these)) (eq-eqb (position_or_len is_no_plain these) (length these) (stops_not these all))
+
+-- so many more are plain
+pub plain_later : (text left these others : List ℕ) (i : ℕ) → these ≡ take i left → others ≡ drop i left → i ≤ length left → list_all is_plain these ≡ true → length these ≡ i → length left ≤ length text
+    → (length text - length left) + position_or_len is_no_plain left ≡ position_or_len is_no_plain text → (length text - length others) + position_or_len is_no_plain others ≡ position_or_len is_no_plain text
+plain_later text left these others i front back within all few low so_far =
+    let here = in_two left these others i front back all in
+    let rest : length others ≡ length left - i = ap length back ∙ length-drop i left in
+    omega (arith, here, rest, few, low, within, so_far)
 
 zero_more : (n : ℕ) → n + 0 ≡ n
 zero_more n = omega arith

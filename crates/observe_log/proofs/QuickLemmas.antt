@@ -1,20 +1,27 @@
 -- Numbers digit by digit, and words as boards have them: a number of at most eight digits, and any other word, which is read alone.
-use Rattle.std.proofs.Common.{◌≡◌, ℕ, ◌+◌, ◌*◌, ◌^◌, ◌<◌, ◌≤◌, Bool, true, false, eqb, leb, ltb, ◌&&◌, List, [], ◌∷◌, length, take, get_or, Result, Ok, Err, refl, ap, sym, ◌∙◌, arith}
+use Rattle.std.proofs.Common.{◌≡◌, ℕ, ◌+◌, ◌*◌, ◌^◌, ◌<◌, ◌≤◌, Bool, true, false, eqb, leb, ltb, ◌&&◌, List, [], ◌∷◌, length, take, get_or, Some, None, Result, Ok, Err, refl, ap, sym, ◌∙◌, arith}
+use Rattle.std.specs.Prelude.{codes}
 use Rattle.std.specs.List.{list_all}
+use Rattle.std.specs.Str.{bytes_eq}
 use Rattle.std.specs.Char.{is_digit, digit_value}
 use Rattle.std.specs.Str.Parse.{digits_value}
 use Rattle.std.proofs.lemmas.List.{length-take}
 use Rattle.std.proofs.lemmas.List.Folds.{list_all_more}
 use Rattle.std.proofs.lemmas.Bool.{and_parts, false≢true}
 use Rattle.std.proofs.lemmas.Bool.Decides.{nat_tests}
+use Rattle.std.proofs.lemmas.Slice.Eq.{bytes_eq-Decides}
 use Rattle.board_text.specs.declared.numbers.NumberFault.{NumberFault}
 use Rattle.board_text.specs.Numbers.{is_numeral, hex_answer, decimal_answer, number_fault}
 use Rattle.board_text.specs.Tokens.{words_of}
 use Rattle.board_text.proofs.DigitLemmas.{digits_step, digits_below}
 use Rattle.text_faults.specs.declared.board_line.LineFault.{LineFault}
-use Rattle.board_statements.specs.Words.{with_rest, one_word, hex_of, decimal_of, has_mark, long_of, data_word_of}
+use Rattle.board_statements.specs.Words.{with_rest, one_word, hex, long, hex_of, decimal_of, has_mark, long_of, data_word_of}
+use Rattle.board_model.specs.declared.board.Board.{Board}
+use Rattle.observe_log.specs.Readers.{as_in_boards}
 use Rattle.observe_log.specs.Plain.{StandsAlone}
-use Rattle.observe_log.specs.Words.{is_short_numeral}
+use Rattle.observe_log.specs.Words.{is_short_numeral, bus_by, bus_form, dword_by}
+use Rattle.observe_log.specs.Lines.{ending_of}
+use Rattle.observe_log.specs.Front.{TakesNumber}
 
 -- Numbers.
 
@@ -44,13 +51,13 @@ hex_fault word fault read = rw read refl
 
 -- Digits have no mark between them.
 
-apart : (mark byte : ℕ) → is_digit mark 16 ≡ false → is_digit byte 16 ≡ true → eqb byte mark ≡ false
-apart mark byte none digit =
+pub apart : (radix mark byte : ℕ) → is_digit mark radix ≡ false → is_digit byte radix ≡ true → eqb byte mark ≡ false
+apart radix mark byte none digit =
     let P : Bool → Type 0 = λ b. eqb byte mark ≡ b → b ≡ false in
     (elim (eqb byte mark) as P [
       | true ↦ λ is.
           let same : byte ≡ mark = grind (arith, nat_tests) in
-          absurd (false≢true (sym none ∙ ap (λ (n : ℕ). is_digit n 16) (sym same) ∙ digit))
+          absurd (false≢true (sym none ∙ ap (λ (n : ℕ). is_digit n radix) (sym same) ∙ digit))
       | false ↦ λ is. refl
     ]) refl
 
@@ -58,7 +65,7 @@ no_mark : (mark : ℕ) (word : List ℕ) → is_digit mark 16 ≡ false → list
 no_mark mark [] none all = refl
 no_mark mark (byte ∷ word) none all =
     let parts = and_parts (is_digit byte 16) (list_all (λ byte. is_digit byte 16) word) all in
-    let here : eqb byte mark ≡ false = apart mark byte none parts.0 in
+    let here : eqb byte mark ≡ false = apart 16 mark byte none parts.0 in
     rw here (no_mark mark word none parts.1)
 
 -- Numbers of at most eight digits.
@@ -86,6 +93,51 @@ phase_number word n short is =
     let number : hex_of 8 word ≡ Ok n = hex_number word (digits_value 16 word) (hex_is word short) ∙ ap (λ (m : ℕ). Ok m) (sym is) in
     rw (unmarked, number) refl
 
+pub port_number : (word : List ℕ) (n : ℕ) → is_short_numeral 16 8 word ≡ true → n ≡ digits_value 16 word → hex_of 8 word ≡ Ok n
+port_number word n short is = hex_number word (digits_value 16 word) (hex_is word short) ∙ ap (λ (m : ℕ). Ok m) (sym is)
+
+pub decimal_number : (word : List ℕ) (n : ℕ) → is_short_numeral 10 9 word ≡ true → n ≡ digits_value 10 word → decimal_of 0 4294967295 word ≡ Ok n
+decimal_number word n short is =
+    let parts = and_parts (is_numeral 10 word) (leb (length word) 9) short in
+    let digits : list_all (λ byte. is_digit byte 10) word ≡ true = (and_parts (ltb 0 (length word)) (list_all (λ byte. is_digit byte 10) word) parts.0).1 in
+    let nine : length word ≤ 9 = grind (arith, nat_tests, parts.1) in
+    let small : digits_value 10 word < 1000000000 = digits_below 10 9 word (omega arith) digits nine in
+    let numeral : is_numeral 10 word ≡ true = parts.0 in
+    let few : ltb 10 (length word) ≡ false = grind (arith, nat_tests) in
+    let low : ltb (digits_value 10 word) 4294967296 ≡ true = grind (arith, nat_tests) in
+    let read : decimal_answer word ≡ number_so (digits_value 10 word) = rw (numeral, few, low) refl in
+    bus_number word (digits_value 10 word) read (omega (arith, small)) ∙ ap (λ (m : ℕ). Ok m) (sym is)
+
+-- The words of a line that begin with a number.
+
+pub bus_read : (board : Board) (words new : List (List ℕ)) (n : ℕ) → TakesNumber 10 9 (Some n) words new → bus_form board words ≡ bus_by board (Ok (n, new))
+bus_read board words new n taken =
+    ap (bus_form board) taken.1 ∙ ap (λ (r : Result ℕ LineFault). bus_by board (as_in_boards 1 (with_rest r new))) (decimal_number taken.0 n taken.2 taken.3)
+
+pub long_read : (words new : List (List ℕ)) (n : ℕ) → TakesNumber 16 8 (Some n) words new → dword_by (as_in_boards 4 (long true words)) ≡ dword_by (Ok (n, new))
+long_read words new n taken =
+    ap (λ (ws : List (List ℕ)). dword_by (as_in_boards 4 (long true ws))) taken.1 ∙ ap (λ (r : Result ℕ LineFault). dword_by (as_in_boards 4 (with_rest r new))) (long_number taken.0 n taken.2 taken.3)
+
+pub port_read : (words new : List (List ℕ)) (n : ℕ) → TakesNumber 16 8 (Some n) words new → dword_by (as_in_boards 4 (hex 8 words)) ≡ dword_by (Ok (n, new))
+port_read words new n taken =
+    ap (λ (ws : List (List ℕ)). dword_by (as_in_boards 4 (hex 8 ws))) taken.1 ∙ ap (λ (r : Result ℕ LineFault). dword_by (as_in_boards 4 (with_rest r new))) (port_number taken.0 n taken.2 taken.3)
+
+-- A number is no RESULT.
+
+other_text : (word text : List ℕ) → is_short_numeral 16 8 word ≡ true → list_all (λ byte. is_digit byte 16) text ≡ false → bytes_eq word text ≡ false
+other_text word text short none =
+    let P : Bool → Type 0 = λ b. bytes_eq word text ≡ b → b ≡ false in
+    (elim (bytes_eq word text) as P [
+      | true ↦ λ is.
+          let same : word ≡ text = (bytes_eq-Decides word text).0 is in
+          absurd (false≢true (sym none ∙ ap (list_all (λ byte. is_digit byte 16)) (sym same) ∙ digits_of_short word short))
+      | false ↦ λ is. refl
+    ]) refl
+
+pub no_ending : (word : List ℕ) → is_short_numeral 16 8 word ≡ true → ending_of word ≡ None
+no_ending word short =
+    rw (other_text word (codes "done") short refl, other_text word (codes "retry") short refl, other_text word (codes "tabort") short refl, other_text word (codes "nobody") short refl) refl
+
 -- The digits so far.
 
 pub digits_more : (radix : ℕ) (word : List ℕ) (i digit : ℕ) → i < length word → digit ≡ digit_value (get_or word i 0) → digit < radix → list_all (λ byte. is_digit byte radix) (take i word) ≡ true → list_all (λ byte. is_digit byte radix) (take (i + 1) word) ≡ true
@@ -93,15 +145,15 @@ digits_more radix word i digit inside read small so_far =
     let here : is_digit (get_or word i 0) radix ≡ true = rw (← read) (grind (arith, nat_tests)) in
     rw (list_all_more (λ byte. is_digit byte radix) word i 0 inside, so_far, here) refl
 
-pub digits_fit : (radix most value : ℕ) (word : List ℕ) (i : ℕ) → 0 < radix → length word ≤ most → list_all (λ byte. is_digit byte radix) (take i word) ≡ true → value ≡ digits_value radix (take i word) → value < radix ^ most
+pub digits_fit : (radix most value : ℕ) (word : List ℕ) (i : ℕ) → 0 < radix → i ≤ most → list_all (λ byte. is_digit byte radix) (take i word) ≡ true → value ≡ digits_value radix (take i word) → value < radix ^ most
 digits_fit radix most value word i base short all is =
     let size = length-take i word in
     rw is (digits_below radix most (take i word) base all (omega (arith, size)))
 
-pub digits_small : (radix most value digit : ℕ) (word : List ℕ) (i : ℕ) → 0 < radix → i < length word → length word ≤ most → list_all (λ byte. is_digit byte radix) (take (i + 1) word) ≡ true
+pub digits_small : (radix most value digit : ℕ) (word : List ℕ) (i : ℕ) → 0 < radix → i < length word → i < most → list_all (λ byte. is_digit byte radix) (take (i + 1) word) ≡ true
     → value ≡ digits_value radix (take i word) → digit ≡ digit_value (get_or word i 0) → value * radix + digit < radix ^ most
 digits_small radix most value digit word i base inside short all is read =
-    digits_fit radix most (value * radix + digit) word (i + 1) base short all (digits_step radix value digit word i inside is read)
+    digits_fit radix most (value * radix + digit) word (i + 1) base (omega (arith, short)) all (digits_step radix value digit word i inside is read)
 
 -- A word that is read alone.
 

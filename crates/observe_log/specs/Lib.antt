@@ -3,6 +3,8 @@ pub mod Words
 pub mod Plain
 pub mod Lines
 pub mod Data
+pub mod Front
+pub mod Initiators
 pub mod Reading
 pub mod Boards
 pub mod Logs

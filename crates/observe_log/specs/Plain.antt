@@ -1,6 +1,5 @@
 -- A line as it stands in a log as a rule: of bytes that a line may have, and without a comment; and its words, one by one.
 use Rattle.std.specs.Prelude.{◌≡◌, ◌≤◌, ℕ, Bool, true, not, ◌&&◌, List, [], ◌∷◌, length, Option, Some, None, Result, Ok, Err}
-use Rattle.std.specs.Borrow.{Bor}
 use Rattle.board_text.specs.Lines.{is_allowed}
 use Rattle.board_text.specs.Tokens.{is_comment, uncommented, words_of}
 use Rattle.text_faults.specs.declared.board_line.LineFault.{LineFault}
@@ -23,11 +22,6 @@ pub record IsPlain (line : List ℕ) : Type 0 where
 -- a word is the only one of a line of its bytes
 pub record StandsAlone (word : List ℕ) : Type 0 where
   pub alone : words_of word ≡ word ∷ []
-
--- the next word, where there is one, and those behind it
-abbrev pub with_next : Option (Bor (List ℕ)) → List (List ℕ) → List (List ℕ)
-with_next None behind = []
-with_next (Some word) behind = word.now ∷ behind
 
 -- a value was read of a word exactly where it is of its kind
 abbrev pub Reads : {A : Type 0} → Option A → Result A LineFault → Type 0

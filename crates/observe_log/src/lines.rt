@@ -9,7 +9,7 @@ ghost use Rattle.observe_log.specs.Reading.{AddsAll};
 
 use crate::LogFault;
 use crate::fault::LineStop;
-use crate::line::LineWords;
+use crate::line::{Initiators, LineWords};
 use crate::parts::{is_readable, of_line};
 use crate::plain::{line_at, words_at};
 use crate::reading::Reading;
@@ -19,9 +19,9 @@ use board_text::next_line;
 use text_faults::{LogLineFault, OrNoMemory};
 
 /// Reads the lines from `from` on, where the first line has this number, up to the `end` line.
-pub(crate) fn read_lines(
-    board: &Board,
-    bytes: &[u8],
+pub(crate) fn read_lines<'a>(
+    board: &'a Board,
+    bytes: &'a [u8],
     from: usize,
     first: u32,
     reading: &mut Reading,
@@ -33,6 +33,7 @@ pub(crate) fn read_lines(
     ensures { AddsAll result reading.new
         (lines_read board.now first reading.old (lines_of (drop from bytes.now))) }
 {
+    let mut initiators = Initiators::new(board);
     let mut number = first;
     let mut at = from;
     while let Some((line, next, plain)) = line_at(bytes, at) {
@@ -42,7 +43,7 @@ pub(crate) fn read_lines(
         if is_last(&words, bytes, next) {
             return behind_end(bytes, next, number + 1);
         }
-        match read_line(board, &mut words, number, reading) {
+        match read_line(&mut initiators, &mut words, number, reading) {
             Ok(()) => {}
             Err(fault) => return Err(fault),
         }
@@ -53,23 +54,24 @@ pub(crate) fn read_lines(
 }
 
 /// Reads a line that is not the last one with words, by its words.
-fn read_line(
-    board: &Board,
-    words: &mut LineWords,
+fn read_line<'a>(
+    initiators: &mut Initiators<'a>,
+    words: &mut LineWords<'a>,
     number: u32,
     reading: &mut Reading,
 ) -> Result<(), OrNoMemory<LogFault>>
     requires few { length words.old ≤ 257 }
     requires fits { length reading.old.phases < 2 ^ 32 }
     ensures read { AddsAll result reading.new
-        (words_line board.now number reading.old words.old) }
+        (words_line initiators.old number reading.old words.old) }
+    ensures board { initiators.new ≡ initiators.old }
     ensures few { OnOk result
         (length reading.new.phases ≤ length reading.old.phases + length words.old) }
 {
     if words.is_done() {
         return Ok(());
     }
-    match reading.read(board, number, words) {
+    match reading.read(initiators, number, words) {
         Ok(()) => Ok(()),
         Err(LineStop::Fault(at)) => Err(OrNoMemory::Fault(LogFault::Log {
             line: number,
@@ -85,7 +87,7 @@ fn is_last(words: &LineWords, bytes: &[u8], next: usize) -> bool
     ensures { result ≡ (is_word_alone (codes "end") words.now
         && not (list_any has_words (lines_of (drop next bytes.now)))) }
 {
-    words.is_alone(b"end") && !have_words(bytes, next)
+    words.is_end() && !have_words(bytes, next)
 }
 
 fn have_words(bytes: &[u8], from: usize) -> bool

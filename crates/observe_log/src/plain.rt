@@ -1,8 +1,8 @@
 //! The lines of a log and their words. A line without a comment, in which each byte may stand, is
 //! found in one pass, and each of its words is cut once.
 ghost use Rattle.std.specs.Prelude.{◌≡◌, ◌+◌, ◌≤◌, ◌↔◌, ◌∷◌, true, false, length, drop, Some};
-ghost use Rattle.std.specs.Prelude.{IfSome, IsNone, IsTrue, MatchOption};
-ghost use Rattle.std.specs.List.{position_or_len};
+ghost use Rattle.std.specs.Prelude.{IfSome, IsNone, IsTrue, MatchOption, nat_le, ◌&&◌, ◌||◌};
+ghost use Rattle.std.specs.List.{position_or_len, list_all};
 ghost use Rattle.board_text.specs.Lines.{lines_of};
 ghost use Rattle.board_text.specs.Tokens.{words_of};
 ghost use Rattle.observe_log.specs.Boards.{is_readable};
@@ -11,6 +11,9 @@ ghost use Rattle.observe_log.specs.Plain.{is_plain, is_no_plain, IsPlain};
 use crate::line::LineWords;
 use crate::parts::is_readable;
 use board_text::next_line;
+
+/// How many bytes are looked at together, with no branch between them.
+const AT_ONCE: usize = 16;
 
 /// The line that begins at `at`, without its newline, the place behind that, and whether it is
 /// known to be readable and without a comment. There is none exactly from the end of the text on.
@@ -70,15 +73,60 @@ fn length_of_plain(text: &[u8]) -> usize
     ensures value { result ≡ position_or_len is_no_plain text.now }
     ensures within { result ≤ length text.now }
 {
+    let mut left = text;
+    while left.len() >= AT_ONCE {
+        let (these, others) = left.split_at(AT_ONCE);
+        if !are_plain(these) {
+            break;
+        }
+        left = others;
+    }
+    text.len() - left.len() + length_of_few(left)
+}
+
+/// The same, one by one.
+fn length_of_few(text: &[u8]) -> usize
+    ensures value { result ≡ position_or_len is_no_plain text.now }
+    ensures within { result ≤ length text.now }
+{
     text.iter()
         .position(|byte| !is_plain(*byte))
         .unwrap_or(text.len())
 }
 
+fn are_plain(bytes: &[u8]) -> bool
+    ensures { result ≡ list_all is_plain bytes.now }
+{
+    let mut all = true;
+    for byte in bytes {
+        all = both(all, is_plain(*byte));
+    }
+    all
+}
+
 fn is_plain(byte: u8) -> bool
     ensures { result ≡ is_plain byte }
 {
-    (b'$'..=b'~').contains(&byte) || (b' '..=b'"').contains(&byte) || byte == b'\t'
+    let is_mark = either(byte == b'\t', between(byte, b' ', b'"'));
+    either(is_mark, between(byte, b'$', b'~'))
+}
+
+fn between(byte: u8, low: u8, high: u8) -> bool
+    ensures { result ≡ (nat_le low byte && nat_le byte high) }
+{
+    both(low <= byte, byte <= high)
+}
+
+fn both(a: bool, b: bool) -> bool
+    ensures { result ≡ (a && b) }
+{
+    a & b
+}
+
+fn either(a: bool, b: bool) -> bool
+    ensures { result ≡ (a || b) }
+{
+    a | b
 }
 
 /// The words of a line that can be read.

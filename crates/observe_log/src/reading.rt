@@ -2,8 +2,7 @@ ghost use Rattle.std.specs.Prelude.{[]};
 ghost use Rattle.observe_log.specs.Reading.{KnowsEnds, TellsEnd};
 
 use crate::fault::{AtWord, LineStop};
-use crate::line::{LineWords, data_fault, read_data, read_heading};
-use board_model::Board;
+use crate::line::{Initiators, LineWords, data_fault, read_data, read_heading};
 use observe_told::Seen;
 use pci_command::{List, Phase};
 use std::alloc::Global;
@@ -57,19 +56,21 @@ impl Reading {
     }
 
     /// Reads the line of this number, by its words.
-    pub(crate) fn read(
+    pub(crate) fn read<'a>(
         &mut self,
-        board: &Board,
+        initiators: &mut Initiators<'a>,
         number: u32,
-        words: &mut LineWords,
+        words: &mut LineWords<'a>,
     ) -> Result<(), LineStop>
         requires few { length words.old ≤ 257 }
         requires fits { length self.old.phases < 2 ^ 32 }
-        ensures read { Adds result self.new (line_read board.now number self.old words.old) }
+        ensures read { Adds result self.new
+            (line_read initiators.old number self.old words.old) }
+        ensures board { initiators.new ≡ initiators.old }
         ensures few { OnOk result
             (length self.new.phases ≤ length self.old.phases + length words.old) }
     {
-        let heading = read_heading(board, words)?;
+        let heading = read_heading(initiators, words)?;
         let first = self.phases.len() as u32;
         let (count, ending) = read_data(words, &mut self.phases)?;
         let phases = usize::from(count);

@@ -36,6 +36,9 @@ pub(crate) fn row_of(log: &Log, seen: &Seen) -> Row
     requires { IsTrue (is_well_formed log.now.board) }
     ensures { result ≡ row_of log.now seen.now }
 {
+    if seen.is_posted() {
+        return posted_row(seen.ending);
+    }
     row_by(seen.claimant(&log.board), seen)
 }
 

@@ -15,7 +15,7 @@ use crate::rows::is_over;
 use crate::shown::Shown;
 use board_model::{Board, Master};
 use history_model::{By, Event, Step};
-use observe_told::{Log, Seen};
+use observe_told::{Ending, Log, Seen};
 use pci_command::{NoMemory, OpId};
 use std::alloc::Global;
 
@@ -141,13 +141,22 @@ fn all_over(log: &Log, shown: &[Shown]) -> bool
     true
 }
 
-/// Whether all of a line is shown.
+/// Whether all of a line is shown. Of a Retry nothing has to be, whoever claims it.
 fn is_shown(log: &Log, seen: &Seen, shown: Shown) -> bool
     requires { IsTrue (is_well_formed log.now.board) }
     ensures { result ≡
         is_over (row_of log.now seen.now) seen.now (phases_of_line log.now seen.now) shown }
 {
+    if is_fruitless(seen.ending, shown) {
+        return true;
+    }
     is_over(row_of(log, seen), seen, log.phases_of(seen), shown)
+}
+
+fn is_fruitless(ending: Ending, shown: Shown) -> bool
+    ensures { IsTrue result → (ending ≡ Ending.Retry) × (shown ≡ Shown.Dwords 0) }
+{
+    matches!((ending, shown), (Ending::Retry, Shown::Dwords(0)))
 }
 
 /// Whether the acts stand in the order of the lines of each bus, and of the times.

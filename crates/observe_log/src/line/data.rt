@@ -5,14 +5,22 @@ ghost use Rattle.observe_log.specs.Lines.{past_space, room_from};
 ghost use Rattle.board_statements.specs.Words.{data_word_of};
 ghost use Rattle.observe_log.specs.Data.{TellsData};
 ghost use Rattle.observe_log.specs.Plain.{StandsAlone, Reads};
+ghost use Rattle.observe_log.specs.Front.{IsDataWord, TakesData};
 
 use crate::fault::{AtWord, LineStop, misread};
 use crate::line::LineWords;
-use crate::line::words::number_in;
 use board_statements::{Words, is_word};
 use observe_told::{Addressed, Ending};
 use pci_command::{Command, Phase, Space};
 use text_faults::LogLineFault;
+
+/// What a word behind the address is.
+#[derive(Clone, Copy)]
+enum DataWord {
+    Data(Phase),
+    Ends(Ending),
+    Other,
+}
 
 /// `WORD.. RESULT`, up to the end of the line: how many data words stand there, and how the
 /// transaction ended. The data words are put behind the phases.
@@ -26,20 +34,43 @@ pub(crate) fn read_data(
         (length phases.new.items ≤ length phases.old.items + length words.old) }
 {
     let mut count = 0;
-    while let Some(word) = words.take() {
-        if let Some(ending) = ending_of(word) {
-            if words.is_done() {
-                return Ok((count as u8, ending));
-            }
-            return Err(LineStop::Fault(misread(count + 6)));
-        }
-        match phase_of(word) {
-            Some(phase) => phases.push(phase)?,
-            None => return Err(LineStop::Fault(misread(count + 5))),
+    while let Some(word) = take_data(words) {
+        match word {
+            DataWord::Data(phase) => phases.push(phase)?,
+            DataWord::Ends(ending) if words.is_done() => return Ok((count as u8, ending)),
+            DataWord::Ends(_) => return Err(LineStop::Fault(misread(count + 6))),
+            DataWord::Other => return Err(LineStop::Fault(misread(count + 5))),
         }
         count += 1;
     }
     Err(LineStop::Fault(misread(count + 5)))
+}
+
+/// Takes the next word behind the address: mostly HEX, with all bytes enabled.
+fn take_data(words: &mut LineWords) -> Option<DataWord>
+    ensures { TakesData result words.old words.new }
+{
+    if let Some(value) = words.take_number(16, 8) {
+        return Some(DataWord::Data(Phase {
+            value: value as u32,
+            enables: 15,
+        }));
+    }
+    let word = words.take()?;
+    Some(data_word_in(word))
+}
+
+fn data_word_in(word: &[u8]) -> DataWord
+    requires { StandsAlone word.now }
+    ensures { IsDataWord result word.now }
+{
+    if let Some(ending) = ending_of(word) {
+        return DataWord::Ends(ending);
+    }
+    match phase_of(word) {
+        Some(phase) => DataWord::Data(phase),
+        None => DataWord::Other,
+    }
 }
 
 /// RESULT.
@@ -65,21 +96,8 @@ fn abort_of(word: &[u8]) -> Option<Ending>
     }
 }
 
-/// A data word as in boards: mostly HEX, with all bytes enabled.
+/// A data word as in boards.
 fn phase_of(word: &[u8]) -> Option<Phase>
-    requires { StandsAlone word.now }
-    ensures { Reads result (data_word_of word.now) }
-{
-    match number_in(word, 16, 8) {
-        Some(value) => Some(Phase {
-            value: value as u32,
-            enables: 15,
-        }),
-        None => marked_phase_of(word),
-    }
-}
-
-fn marked_phase_of(word: &[u8]) -> Option<Phase>
     requires { StandsAlone word.now }
     ensures { Reads result (data_word_of word.now) }
 {

@@ -1,4 +1,4 @@
-ghost use Rattle.std.specs.Prelude.{◌≡◌, true, [], ◌∷◌, MatchResult};
+ghost use Rattle.std.specs.Prelude.{◌≡◌, ℕ, List, true, [], ◌∷◌, Ok, MatchResult};
 ghost use Rattle.board_statements.specs.Words.{hex, hex_of, decimal_of, long, long_of};
 ghost use Rattle.observe_log.specs.Plain.{StandsAlone, Reads};
 ghost use Rattle.observe_log.specs.Readers.{Gives, misread, one_word, as_in_boards};
@@ -6,8 +6,8 @@ ghost use Rattle.observe_log.specs.Words.{of_kind, times_of, bus_by, bus_form, w
 ghost use Rattle.observe_log.specs.Words.{register_of, dword_by, address_in, heading_form};
 
 use crate::fault::{AtWord, misread};
-use crate::line::LineWords;
-use crate::line::words::{command_of, number_in, register_of, times_of, who_in};
+use crate::line::words::{command_of, register_of, times_of};
+use crate::line::{Initiators, LineWords};
 use board_model::{Board, is_bus};
 use board_statements::Words;
 use board_text::{decimal, hex};
@@ -28,12 +28,16 @@ pub(crate) struct Heading {
 
 /// `START-END BUS WHO COMMAND ADDRESS`
 #[tactic(auto, unfolding(crate::specs::Words::heading_form))]
-pub(crate) fn read_heading(board: &Board, words: &mut LineWords) -> Result<Heading, AtWord>
-    ensures { Gives result words.new (heading_form board.now words.old) }
+pub(crate) fn read_heading<'a>(
+    initiators: &mut Initiators<'a>,
+    words: &mut LineWords<'a>,
+) -> Result<Heading, AtWord>
+    ensures read { Gives result words.new (heading_form initiators.old words.old) }
+    ensures board { initiators.new ≡ initiators.old }
 {
     let (start, end) = take_times(words)?;
-    let bus = take_bus(board, words)?;
-    let who = take_who(board, bus, words)?;
+    let bus = take_bus(initiators.board(), words)?;
+    let who = take_who(initiators, bus, words)?;
     let command = take_command(words)?;
     let address = take_address(command.space(), words)?;
     Ok(Heading {
@@ -61,6 +65,16 @@ fn next<'a>(words: &mut LineWords<'a>, place: usize) -> Result<&'a [u8], AtWord>
 fn take_times(words: &mut LineWords) -> Result<(u64, u64), AtWord>
     ensures { Gives result words.new (one_word 0 (λ word. of_kind (times_of word)) words.old) }
 {
+    match words.take_times() {
+        Some(times) => Ok(times),
+        None => take_other_times(words),
+    }
+}
+
+/// The same, however the word ends.
+fn take_other_times(words: &mut LineWords) -> Result<(u64, u64), AtWord>
+    ensures { Gives result words.new (one_word 0 (λ word. of_kind (times_of word)) words.old) }
+{
     let word = next(words, 0)?;
     times_of(word).ok_or(misread(0))
 }
@@ -68,10 +82,28 @@ fn take_times(words: &mut LineWords) -> Result<(u64, u64), AtWord>
 fn take_bus(board: &Board, words: &mut LineWords) -> Result<u8, AtWord>
     ensures { Gives result words.new (bus_form board.now words.old) }
 {
+    match words.take_number(10, 9) {
+        Some(number) => bus_there(board, number),
+        None => take_other_bus(board, words),
+    }
+}
+
+/// The same, however the word ends.
+fn take_other_bus(board: &Board, words: &mut LineWords) -> Result<u8, AtWord>
+    ensures { Gives result words.new (bus_form board.now words.old) }
+{
     let word = next(words, 1)?;
-    let Some(number) = number_of(word) else {
-        return Err(misread(1));
-    };
+    match number_of(word) {
+        Some(number) => bus_there(board, u64::from(number)),
+        None => Err(misread(1)),
+    }
+}
+
+/// The bus of this number, if it is one of the board.
+fn bus_there(board: &Board, number: u64) -> Result<u8, AtWord>
+    ensures { (words : List (List ℕ)) →
+        Gives result words (bus_by board.now (Ok (number, words))) }
+{
     match u8::try_from(number) {
         Ok(bus) if is_bus(board, bus) => Ok(bus),
         _ => Err(AtWord {
@@ -91,11 +123,16 @@ fn number_of(word: &[u8]) -> Option<u32>
     }
 }
 
-fn take_who(board: &Board, bus: u8, words: &mut LineWords) -> Result<Who, AtWord>
-    ensures { Gives result words.new (one_word 2 (who_in board.now bus) words.old) }
+fn take_who<'a>(
+    initiators: &mut Initiators<'a>,
+    bus: u8,
+    words: &mut LineWords<'a>,
+) -> Result<Who, AtWord>
+    ensures read { Gives result words.new (one_word 2 (who_in initiators.old bus) words.old) }
+    ensures board { initiators.new ≡ initiators.old }
 {
     let word = next(words, 2)?;
-    match who_in(board, bus, word) {
+    match initiators.find(bus, word) {
         Some(who) => Ok(who),
         None => Err(AtWord {
             word: 2,
@@ -124,25 +161,36 @@ fn take_address(space: Space, words: &mut LineWords) -> Result<Addressed, AtWord
 fn take_memory_address(words: &mut LineWords) -> Result<Addressed, AtWord>
     ensures { Gives result words.new (dword_by (as_in_boards 4 (long true words.old))) }
 {
+    match words.take_number(16, 8) {
+        Some(address) => dword_at(address),
+        None => take_other_address(words),
+    }
+}
+
+/// The same, where it is no HEX, or however the word ends.
+fn take_other_address(words: &mut LineWords) -> Result<Addressed, AtWord>
+    ensures { Gives result words.new (dword_by (as_in_boards 4 (long true words.old))) }
+{
     let word = next(words, 4)?;
     match long_of(word) {
-        Some(address) if address % 4 == 0 => Ok(Addressed::Byte(address)),
-        _ => Err(misread(4)),
+        Some(address) => dword_at(address),
+        None => Err(misread(4)),
     }
 }
 
-/// An address as in boards: mostly HEX, else `UPPER:LOWER`.
-fn long_of(word: &[u8]) -> Option<u64>
-    requires { StandsAlone word.now }
-    ensures { Reads result (long_of true word.now) }
+/// A byte address that is a multiple of 4.
+fn dword_at(address: u64) -> Result<Addressed, AtWord>
+    ensures { (words : List (List ℕ)) → Gives result words (dword_by (Ok (address, words))) }
 {
-    match number_in(word, 16, 8) {
-        Some(number) => Some(number),
-        None => marked_long_of(word),
+    if address % 4 == 0 {
+        Ok(Addressed::Byte(address))
+    } else {
+        Err(misread(4))
     }
 }
 
-fn marked_long_of(word: &[u8]) -> Option<u64>
+/// An address as in boards: HEX, or `UPPER:LOWER`.
+fn long_of(word: &[u8]) -> Option<u64>
     requires { StandsAlone word.now }
     ensures { Reads result (long_of true word.now) }
 {
@@ -156,10 +204,20 @@ fn marked_long_of(word: &[u8]) -> Option<u64>
 fn take_port_address(words: &mut LineWords) -> Result<Addressed, AtWord>
     ensures { Gives result words.new (dword_by (as_in_boards 4 (hex 8 words.old))) }
 {
+    match words.take_number(16, 8) {
+        Some(address) => dword_at(address),
+        None => take_other_port(words),
+    }
+}
+
+/// The same, however the word ends.
+fn take_other_port(words: &mut LineWords) -> Result<Addressed, AtWord>
+    ensures { Gives result words.new (dword_by (as_in_boards 4 (hex 8 words.old))) }
+{
     let word = next(words, 4)?;
     match port_of(word) {
-        Some(address) if address % 4 == 0 => Ok(Addressed::Byte(u64::from(address))),
-        _ => Err(misread(4)),
+        Some(address) => dword_at(u64::from(address)),
+        None => Err(misread(4)),
     }
 }
 

@@ -1,12 +1,10 @@
 //! What one word is read as.
-ghost use Rattle.std.specs.Prelude.{◌≡◌, ◌<◌, ◌≤◌, ◌^◌, length, is_some, nat_le, true, false, Ok};
-ghost use Rattle.std.specs.Prelude.{IfSome, MatchOption};
+ghost use Rattle.std.specs.Prelude.{◌≡◌};
 ghost use Rattle.std.specs.Option.{option_map, option_and_then};
 ghost use Rattle.std.specs.List.{position};
-ghost use Rattle.std.specs.Str.Parse.{digits_value};
 ghost use Rattle.board_model.specs.declared.agents.Master.{Master as MasterAgent};
 ghost use Rattle.board_text.specs.Numbers.{decimal_answer};
-ghost use Rattle.observe_log.specs.Words.{is_short_numeral, time_of, ordered, times_of};
+ghost use Rattle.observe_log.specs.Words.{time_of, ordered, times_of};
 ghost use Rattle.observe_log.specs.Words.{is_driver, as_place};
 ghost use Rattle.observe_log.specs.Words.{bridge_by, lane_to, lane_in, who_by, who_in};
 ghost use Rattle.observe_log.specs.Words.{register_command_of, command_of, part_of, device_of};
@@ -14,9 +12,10 @@ ghost use Rattle.observe_log.specs.Words.{type_0_of, type_1_of, behind_dot, regi
 ghost use Rattle.observe_log.specs.Words.{without_last};
 ghost use Rattle.observe_log.specs.Readers.{Found};
 
+use crate::line::number::number_in;
 use board_model::{Board, Lane, Master, end_of, has_bridge_to};
 use board_statements::{is_word, parts};
-use board_text::{decimal, value_of_digit};
+use board_text::decimal;
 use observe_told::{Addressed, Who};
 use pci_command::Command;
 
@@ -55,33 +54,6 @@ fn time_of(word: &[u8]) -> Option<u64>
         Some(time) => Some(time),
         None => None,
     }
-}
-
-/// The number that 1 to `most` digits of this base write, read in one pass.
-#[inline(always)]
-pub(crate) fn number_in(word: &[u8], radix: u32, most: usize) -> Option<u64>
-    requires base { 0 < radix }
-    requires fits { radix ^ most ≤ 2 ^ 64 }
-    ensures number { MatchOption result (is_short_numeral radix most word.now ≡ false)
-        (λ number. (is_short_numeral radix most word.now ≡ true) ×
-        (number ≡ digits_value radix word.now)) }
-    ensures below { IfSome result (λ number. number < radix ^ most) }
-{
-    if word.is_empty() {
-        return None;
-    }
-    if word.len() > most {
-        return None;
-    }
-    let mut value: u64 = 0;
-    for byte in word {
-        let digit = value_of_digit(*byte);
-        if digit >= radix {
-            return None;
-        }
-        value = value * u64::from(radix) + u64::from(digit);
-    }
-    Some(value)
 }
 
 /// A master of the board on the bus, or a lane that ends on it.

@@ -9,6 +9,7 @@ invariant-loop-line l = record {
   within : l.at ≤ length l.bytes + 1;
   counted : l.number ≤ l.at + 1;
   few : length l.reading.phases ≤ l.at;
+  board : l.initiators ≡ l.board;
   lines : lines_read l.board l.number l.reading (lines_of (drop l.at l.bytes)) ≡ lines_read l.board l.first l.fn.reading (lines_of (drop l.from l.bytes));
 }
 

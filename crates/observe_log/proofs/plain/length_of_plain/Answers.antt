@@ -1,10 +1,14 @@
-use Rattle.std.proofs.Common.{◌∙◌, rules, tests}
-use Rattle.std.proofs.lemmas.Iterator.{YieldsList-from_slice}
-use Rattle.std.proofs.lemmas.Iterator.Search.{position_from_yields_List}
-use Rattle.board_text.proofs.CutLemmas.{first_or_length}
-use Rattle.observe_log.specs.Plain.{is_no_plain}
+use Rattle.std.proofs.Common.{arith, sym, ◌∙◌}
+use Rattle.observe_log.proofs.PlainLemmas.{plain_later}
 use Rattle.observe_log.proofs.plain.length_of_plain.Goals as goal
 
-pub returns-clause-value : goal.returns-clause-value
-returns-clause-value c =
-    c.unwrap_or.ensures ∙ first_or_length is_no_plain c.args.text.now _ (position_from_yields_List is_no_plain _ _ _ c.position.ensures.ran (YieldsList-from_slice c.args.text.now cc) (λ x b q k. search (rules, tests)))
+pub loop-left-preserved : goal.loop-left-preserved
+loop-left-preserved c =
+    let fewer = c.split_at.ensures.back_len in
+    let within = c.loop-left.invariant.within in
+    record {
+      within = omega (arith, fewer, within);
+      so_far =
+          plain_later c.args.text.now c.loop-left.left.now c.split_at.result.0.now c.split_at.result.1.now 16
+          c.split_at.ensures.front c.split_at.ensures.back c.loop-left-test.true (sym c.are_plain.ensures ∙ c.if-not-are_plain.false) c.split_at.ensures.front_len within c.loop-left.invariant.so_far;
+    }

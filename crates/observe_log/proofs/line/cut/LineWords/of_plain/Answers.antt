@@ -1,5 +1,5 @@
 use Rattle.observe_log.proofs.PlainLemmas.{words_stand}
 use Rattle.observe_log.proofs.line.cut.LineWords.of_plain.Goals as goal
 
-pub cut-requires : goal.cut-requires
-cut-requires c = words_stand c.args.line.now c.requires
+pub invariant_of-result : goal.invariant_of-result
+invariant_of-result c = words_stand c.args.line.now c.requires
