@@ -1,9 +1,11 @@
 """The tables of bench/run that look at one thing each: multiples of yardsticks, instructions an event, memory a further event,
-and how the time grows with what grows. Each prints its lines as it has them."""
+how the time grows with what grows, and logs that are observed. Each prints its lines as it has them."""
 import importlib.machinery
 import importlib.util
 import math
 import os
+import random
+import re
 import shutil
 import subprocess
 import sys
@@ -36,6 +38,10 @@ def module_of(path):
 
 MAKE = module_of(os.path.join(BENCH, "make"))
 WORST = module_of(os.path.join(os.path.dirname(BENCH), "tools", "worst"))
+LOGS = module_of(os.path.join(os.path.dirname(BENCH), "tools", "run_logs.py"))
+# Rounds of seven_buses and seeds of run_logs.py that make logs of some 100,000 lines, of which nearly none, a third and three
+# fifths are Retries without effect.
+OF_LOGS = [(686, 2), (457, 5), (275, 8)]
 
 
 def chain(bridges, rounds):
@@ -229,6 +235,22 @@ def memory(measured):
     (few, less), (many, more) = taken["half of one bus"], taken["one bus"]
     further = [(after - before) * (1 << 20) / (many - few) for before, after in zip(less, more)]
     print(f"{'a further event':<16} {'':>8} " + " ".join(f"{it:13.1f}" for it in further) + "   bytes", flush=True)
+
+
+def observe(measured):
+    """`observe` of logs of some 100,000 lines, beside `check` of what it writes: seconds and, of memory, bytes a line."""
+    print(f"{'observe':<16} {'fruitless':>9} {'seconds':>8} {'check':>8} {'ratio':>6} {'bytes':>6}   a line")
+    for rounds, seed in OF_LOGS:
+        trace, _ = measured.trace_of(measured.path("board", MAKE.seven_buses(rounds)), "trace")
+        with open(trace, encoding="ascii") as file:
+            text = LOGS.log_of(file.read(), random.Random(seed))
+        log, lines = measured.path("log", text), text.partition("\nlog\n")[2].count("\n") - 1
+        took, most = measured.seconds(measured.words("observe", log)), measured.mib([measured.program, "observe", log])
+        with open(measured.out, encoding="ascii") as file:
+            fruitless = re.search(r"(\d+) Retries without effect", file.read()).group(1)
+        os.replace(measured.out, measured.path("written"))
+        checked = measured.seconds(measured.words("check", measured.path("written")))
+        print(f"{lines:>16} {fruitless:>9} {took:8.3f} {checked:8.3f} {took / checked:6.2f} {most * (1 << 20) / lines:6.0f}", flush=True)
 
 
 def growing():
