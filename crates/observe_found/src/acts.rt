@@ -19,11 +19,11 @@ pub(crate) struct Told<'a> {
 }
 
 impl<'a> Told<'a> {
-    /// Nothing yet.
-    pub(crate) fn new(ground: &'a Ground<'a>) -> Told<'a> {
+    /// Nothing yet but the errands.
+    pub(crate) fn new(ground: &'a Ground<'a>, errands: Errands) -> Told<'a> {
         Told {
             ground,
-            errands: Errands::new(ground.alloc),
+            errands,
             streams: Streams::new(ground.alloc),
             programs: Programs::new(ground.alloc),
         }
@@ -32,7 +32,6 @@ impl<'a> Told<'a> {
     /// All that the lines tell.
     pub(crate) fn follow(&mut self, lanes: &[Lane]) -> Result<(), Unfound> {
         let ground = self.ground;
-        self.errands.sort_all(ground)?;
         self.streams.follow_all(ground, lanes)?;
         pair(ground, lanes, &self.streams, &mut self.errands)?;
         self.programs
@@ -77,22 +76,29 @@ impl<'a> Deeds<'a> {
 
 /// Of each line its operation, where it is of an errand that has one, and whether it latched that.
 fn done_by(ground: &Ground, errands: &Errands) -> Result<Vec<Done>, NoMemory> {
-    let mut done = Vec::with_capacity(ground.alloc, ground.lines.len())?;
-    for line in 0..ground.lines.len() {
-        let errand = errands.of_line(number(line));
-        let op = errand.and_then(|errand| errands.op_of(errand));
-        done.push(Done {
-            op: op.map_or(MaybeOp::NONE, MaybeOp::some),
-            is_latch: false,
-        })?;
-    }
-    for errand in 0..errands.count() {
-        let latch = errands.get(errand).latch();
+    let mut done = vec![in ground.alloc; Done::NOTHING; ground.lines.len()]?;
+    for number in 0..errands.count() {
+        let errand = errands.get(number);
+        let op = errands.op_of(number).map_or(MaybeOp::NONE, MaybeOp::some);
+        for line in errands.lines_of(&errand) {
+            if let Some(done) = done.get_mut(*line as usize) {
+                done.op = op;
+            }
+        }
+        let latch = errand.latch();
         if let Some(done) = latch.and_then(|line| done.get_mut(line as usize)) {
             done.is_latch = true;
         }
     }
     Ok(done)
+}
+
+impl Done {
+    /// Of a line that is of no errand.
+    const NOTHING: Done = Done {
+        op: MaybeOp::NONE,
+        is_latch: false,
+    };
 }
 
 impl Deeds<'_> {

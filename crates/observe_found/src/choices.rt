@@ -44,7 +44,12 @@ pub(crate) struct Choices {
 
 impl PartOf {
     fn is(&self, other: &PartOf) -> bool {
-        self.rank == other.rank && self.first == other.first
+        self.begins_with(other.rank, other.first)
+    }
+
+    /// Whether it is the part of this lane that begins with this errand.
+    fn begins_with(&self, rank: u32, first: u32) -> bool {
+        self.rank == rank && self.first == first
     }
 
     /// Whether what is chosen for it bears on the other: it is of the same request, whose way goes
@@ -90,10 +95,18 @@ impl Choices {
         if nears > 1 {
             self.open.push(part)?;
         }
-        if self.failed.is_some_and(|failed| failed.is(&part)) {
+        self.mend(part.rank, part.first);
+        Ok(())
+    }
+
+    /// The part of this lane that begins with this errand has one.
+    pub(crate) fn mend(&mut self, rank: u32, first: u32) {
+        if self
+            .failed
+            .is_some_and(|failed| failed.begins_with(rank, first))
+        {
             self.failed = None;
         }
-        Ok(())
     }
 
     /// The part has none.

@@ -21,8 +21,8 @@ pub(crate) fn list_discards(
     for lane in lanes {
         let is_crowded = is_crowded(ground, *lane, errands)?;
         let Lane { bus, up } = *lane;
-        let lines = ground.driven_by(*lane).iter();
-        let made = lines.filter_map(|line| made_by(ground, errands, *line));
+        let fars = ground.fars_of(*lane).iter().copied();
+        let made = fars.filter(|far| errands.get(*far).ended().is_some());
         for (before, far) in made.enumerate() {
             if is_discarded(errands, far, is_crowded) {
                 let count = number(before).saturating_add(1);
@@ -38,15 +38,7 @@ pub(crate) fn list_discards(
     Ok(())
 }
 
-/// The far errand that the line of its lane ended, and so made a completion for.
-fn made_by(ground: &Ground, errands: &Errands, line: u32) -> Option<u32> {
-    if ground.seen(line)?.ending != Ending::Retry {
-        errands.of_line(line)
-    } else {
-        None
-    }
-}
-
+/// Whether the completion that the far errand made is discarded.
 fn is_discarded(errands: &Errands, far: u32, is_crowded: bool) -> bool {
     match errands.get(far).near() {
         Some(near) => {
@@ -61,10 +53,8 @@ fn is_discarded(errands: &Errands, far: u32, is_crowded: bool) -> bool {
 fn is_crowded(ground: &Ground, lane: Lane, errands: &Errands) -> Result<bool, NoMemory> {
     let lines = ground.on_bus(ground.start_of(lane)).len();
     let mut changes = vec![in ground.alloc; Change::default(); lines]?;
-    for line in ground.driven_by(lane) {
-        if let Some(far) = errands.begun_at(*line) {
-            note_changes(ground, errands, far, &mut changes);
-        }
+    for far in ground.fars_of(lane) {
+        note_changes(ground, errands, *far, &mut changes);
     }
     Ok(overflows(changes.as_slice(), slots_of(ground, lane)))
 }
@@ -72,7 +62,7 @@ fn is_crowded(ground: &Ground, lane: Lane, errands: &Errands) -> Result<bool, No
 /// What a lane held while its near bus is gone through.
 #[derive(Drop)]
 struct Held {
-    /// How many lines that the lane drives were looked at.
+    /// How many lines that the lane sent were looked at.
     far: usize,
     /// Of each line of the log how many of its pieces left.
     left_of: Vec<u32>,
@@ -158,16 +148,14 @@ impl Held {
         self.pieces = 0;
         self.bursts = 0;
         self.most = 0;
-        for line in ground.claimed_by(lane) {
-            if ground.brings(*line) {
-                self.leave_until(ground, streams, lane, ground.end(*line));
-                if self.burst_held() > u32::from(posted) {
-                    return Ok(0);
-                }
-                self.bring(ground, streams, *line);
-                if self.most > MOST_POSTED {
-                    return Err(Unfound::TooManyPieces { line: *line });
-                }
+        for line in ground.taken_by(lane) {
+            self.leave_until(ground, streams, lane, ground.end(*line));
+            if self.burst_held() > u32::from(posted) {
+                return Ok(0);
+            }
+            self.bring(ground, streams, *line);
+            if self.most > MOST_POSTED {
+                return Err(Unfound::TooManyPieces { line: *line });
             }
         }
         Ok(u8::try_from(self.most).unwrap_or(u8::MAX))
@@ -191,15 +179,13 @@ impl Held {
 
     /// What lines of the far bus took away that began by this time.
     fn leave_until(&mut self, ground: &Ground, streams: &Streams, lane: Lane, time: u64) {
-        let lines = ground.driven_by(lane);
+        let lines = ground.sent_by(lane);
         for line in lines.get(self.far..).unwrap_or(&[]) {
             if ground.start(*line) > time {
                 break;
             }
             self.far = self.far.saturating_add(1);
-            if ground.takes_away(*line) {
-                self.leave(ground, streams, *line);
-            }
+            self.leave(ground, streams, *line);
         }
     }
 

@@ -1,9 +1,15 @@
+ghost use Rattle.std.specs.Prelude.{◌+◌, ◌*◌, ◌^◌, ◌++◌};
+ghost use Rattle.std.specs.Hash as fed;
+ghost use Rattle.std.specs.Cmp.Rules.{hashing};
+ghost use Rattle.std.proofs.Common.{rules};
+
 use crate::ground::{Ground, NO_TIME, Wanted, number};
 use observe_told::{Ending, MaybeOp, MaybePlace, Seen, Who, bump};
 use pci_command::{NoMemory, OpId};
 use std::alloc::Global;
 use std::collections::HashMap;
 use std::collections::hash_map::Entry;
+use std::hash::{Hash, Hasher};
 
 /// How many lanes a way has at most.
 const MOST_LANES: u32 = 64;
@@ -42,7 +48,7 @@ pub(crate) struct Errands {
 }
 
 /// By what a line is known as one of an errand.
-#[derive(Clone, Copy, PartialEq, Eq, Hash)]
+#[derive(Clone, Copy, PartialEq, Eq)]
 struct Asked {
     wanted: Wanted,
     bus: u8,
@@ -50,10 +56,23 @@ struct Asked {
 }
 
 /// Who asks: a master, or the lane to this bus.
-#[derive(Clone, Copy, PartialEq, Eq, Hash)]
+#[derive(Clone, Copy, PartialEq, Eq)]
 enum Asker {
     Master(u16),
     Lane(u8, bool),
+}
+
+/// Few things that are asked have one address, bus and word, so these are written alone, as two
+/// numbers, in place of one for each field.
+impl Hash for Asked {
+    ghost hash_input = { λ a. fed.u64 a.wanted.address ++ fed.u64 (a.wanted.value + 2 ^ 32 * a.bus) };
+
+    ghost respects_eq = { Prim.search (hashing, rules) };
+
+    fn hash<H: Hasher>(&self, state: &mut H) {
+        state.write_u64(self.wanted.address);
+        state.write_u64(u64::from(self.wanted.value) + 0x1_0000_0000 * u64::from(self.bus));
+    }
 }
 
 impl Kept {
@@ -121,8 +140,7 @@ impl Errand {
 }
 
 impl Errands {
-    /// None yet.
-    pub(crate) fn new(alloc: Global) -> Errands {
+    fn new(alloc: Global) -> Errands {
         Errands {
             all: Vec::new(alloc),
             lines: Vec::new(alloc),
@@ -131,14 +149,15 @@ impl Errands {
     }
 
     /// The errands of a log.
-    pub(crate) fn sort_all(&mut self, ground: &Ground) -> Result<(), NoMemory> {
-        self.of_lines.reserve(ground.lines.len())?;
+    pub(crate) fn of(ground: &Ground) -> Result<Errands, NoMemory> {
+        let mut errands = Errands::new(ground.alloc);
+        errands.of_lines.reserve(ground.lines.len())?;
         let mut open = HashMap::new(ground.alloc);
-        self.sort_lines(ground, &mut open)?;
+        errands.sort_lines(ground, &mut open)?;
         let mut next = Vec::new(ground.alloc);
-        self.count_lines(&mut next)?;
-        self.list_lines(&mut next);
-        Ok(())
+        errands.count_lines(&mut next)?;
+        errands.list_lines(&mut next);
+        Ok(errands)
     }
 
     fn sort_lines(
@@ -273,16 +292,11 @@ impl Errands {
         first.copied().unwrap_or(0)
     }
 
-    /// The errand that this line began.
-    pub(crate) fn begun_at(&self, line: u32) -> Option<u32> {
-        let errand = self.of_line(line)?;
-        let first = self.all.get(errand as usize)?.first;
-        let began = self.lines.get(first as usize).copied();
-        if began == Some(line) {
-            Some(errand)
-        } else {
-            None
-        }
+    /// The first line of the errand of this number.
+    pub(crate) fn first_of(&self, errand: u32) -> u32 {
+        let kept = self.all.get(errand as usize);
+        let first = kept.and_then(|kept| self.lines.get(kept.first as usize));
+        first.copied().unwrap_or(0)
     }
 
     /// When it began.

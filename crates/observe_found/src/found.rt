@@ -43,9 +43,11 @@ pub fn find(
     times: Times,
 ) -> Result<LogFound, Unfound> {
     let mut ground = Ground::new(alloc, tree, lines, phases, times)?;
+    let errands = Errands::of(&ground)?;
+    ground.claim(tree, &errands)?;
     let lanes = ground.lanes()?;
     let mut sought = Sought::new(alloc);
-    let drafts = sought.seek(&ground, lanes.as_slice())?;
+    let drafts = sought.seek(&ground, lanes.as_slice(), errands)?;
     ground.forget_buses();
     let masters = all_masters(&ground, drafts)?;
     Ok(sought.with(&ground, masters))
@@ -64,8 +66,13 @@ impl Sought {
 
     /// All that is found, and the programs that are not written out yet. Acts are listed once the
     /// errands are let go, of which there are many.
-    fn seek(&mut self, ground: &Ground, lanes: &[Lane]) -> Result<Vec<Draft>, Unfound> {
-        let mut told = Told::new(ground);
+    fn seek(
+        &mut self,
+        ground: &Ground,
+        lanes: &[Lane],
+        errands: Errands,
+    ) -> Result<Vec<Draft>, Unfound> {
+        let mut told = Told::new(ground, errands);
         told.follow(lanes)?;
         self.list(lanes, &told)?;
         let Told {
@@ -120,21 +127,20 @@ impl Sought {
 fn note_rest(ground: &Ground, errands: &Errands, notes: &mut Vec<Note>) -> Result<(), NoMemory> {
     for place in 0..errands.count() {
         let errand = errands.get(place);
-        let op = errands.op_of(place);
-        let line = errands.first_line(&errand);
-        let Some(seen) = ground.seen(line) else {
-            continue;
-        };
         match errand.ended() {
-            None if matches!(seen.who, Who::Master(_)) => {
-                let asked = number(errands.lines_of(&errand).len());
-                notes.push(Note::NotEnded { op, line, asked })?;
+            None => {
+                let line = errands.first_line(&errand);
+                let seen = ground.seen(line);
+                if seen.is_some_and(|seen| matches!(seen.who, Who::Master(_))) {
+                    let op = errands.op_of(place);
+                    let asked = number(errands.lines_of(&errand).len());
+                    notes.push(Note::NotEnded { op, line, asked })?;
+                }
             }
-            None => {}
             Some(ended) => {
                 let count = not_looked_at(ground, ended);
-                if let Some(op) = op
-                    && count > 0
+                if count > 0
+                    && let Some(op) = errands.op_of(place)
                 {
                     notes.push(Note::NotLookedAt { op, count })?;
                 }
@@ -149,9 +155,12 @@ fn not_looked_at(ground: &Ground, line: u32) -> u32 {
     let Some(seen) = ground.seen(line) else {
         return 0;
     };
-    let is_of_lane = matches!(ground.claimant(line), Place::Lane(_));
-    if seen.command.is_read() && (is_of_lane || matches!(seen.who, Who::Lane(_))) {
-        number(ground.moved(seen).len()).saturating_sub(1)
+    let further = number(ground.moved(seen).len()).saturating_sub(1);
+    let is_lane = || {
+        matches!(seen.who, Who::Lane(_)) || matches!(ground.claimant(line), Place::Lane(_))
+    };
+    if further > 0 && seen.command.is_read() && is_lane() {
+        further
     } else {
         0
     }

@@ -1,7 +1,8 @@
 ghost use Rattle.std.specs.Prelude.{IsTrue};
 ghost use Rattle.board_model.specs.WellFormed.{is_well_formed};
 
-use crate::lane_lines::LaneLines;
+use crate::errands::Errands;
+use crate::lane_lists::LaneLists;
 use board_model::{Board, Lane, Place, bridge_to, end_of, primary_of};
 use board_tree::Tree;
 use observe_told::{Addressed, BusLines, Ending, Seen, Who};
@@ -35,8 +36,10 @@ pub(crate) struct Ground<'a> {
     pub(crate) times: Times,
     claimants: Vec<Place>,
     on_buses: BusLines,
-    driven: LaneLines,
-    claimed: LaneLines,
+    taken: LaneLists,
+    sent: LaneLists,
+    nears: LaneLists,
+    fars: LaneLists,
     /// Of each data phase its line.
     of_phases: Vec<u32>,
 }
@@ -64,33 +67,80 @@ impl<'a> Ground<'a> {
         phases: &'a [Phase],
         times: Times,
     ) -> Result<Ground<'a>, NoMemory> {
-        let board = tree.board();
-        let claimants = claimants(alloc, board, lines)?;
         let on_buses = BusLines::new(alloc, lines)?;
         let of_phases = lines_of_phases(alloc, lines, phases.len())?;
-        let mut ground = Ground {
+        Ok(Ground {
             alloc,
-            board,
+            board: tree.board(),
             lines,
             phases,
             times,
-            claimants,
+            claimants: Vec::new(alloc),
             on_buses,
-            driven: LaneLines::new(alloc),
-            claimed: LaneLines::new(alloc),
+            taken: LaneLists::new(alloc),
+            sent: LaneLists::new(alloc),
+            nears: LaneLists::new(alloc),
+            fars: LaneLists::new(alloc),
             of_phases,
-        };
-        ground.list_by_lanes()?;
-        Ok(ground)
+        })
     }
 
-    fn list_by_lanes(&mut self) -> Result<(), NoMemory> {
+    /// Says who claims each line, and lists what is looked at lane by lane.
+    pub(crate) fn claim(&mut self, tree: &Tree, errands: &Errands) -> Result<(), NoMemory> {
+        self.claimants = claimants(self.alloc, tree.board(), self.lines, errands)?;
         for (line, seen) in self.lines.iter().enumerate() {
-            if let Who::Lane(lane) = seen.who {
-                self.driven.add(self.alloc, lane, number(line))?;
+            let line = number(line);
+            match errands.of_line(line) {
+                Some(errand) => self.list_errand(errands, errand, line, seen)?,
+                None => self.list_posted(line, seen)?,
             }
-            if let Some(Place::Lane(lane)) = self.claimants.get(line) {
-                self.claimed.add(self.alloc, *lane, number(line))?;
+        }
+        self.list_open(errands)
+    }
+
+    fn list_posted(&mut self, line: u32, seen: &Seen) -> Result<(), NoMemory> {
+        if seen.ending == Ending::Done
+            && let Place::Lane(lane) = self.claimant(line)
+        {
+            self.taken.add(self.alloc, lane, line)?;
+        }
+        if seen.ending != Ending::Retry
+            && let Who::Lane(lane) = seen.who
+        {
+            self.sent.add(self.alloc, lane, line)?;
+        }
+        Ok(())
+    }
+
+    /// The errand of the line, where this begins or ends it.
+    fn list_errand(
+        &mut self,
+        errands: &Errands,
+        errand: u32,
+        line: u32,
+        seen: &Seen,
+    ) -> Result<(), NoMemory> {
+        if errands.first_of(errand) == line
+            && let Place::Lane(lane) = self.claimant(line)
+        {
+            self.nears.add(self.alloc, lane, errand)?;
+        }
+        if seen.ending != Ending::Retry
+            && let Who::Lane(lane) = seen.who
+        {
+            self.fars.add(self.alloc, lane, errand)?;
+        }
+        Ok(())
+    }
+
+    /// The errands of lanes that did not end.
+    fn list_open(&mut self, errands: &Errands) -> Result<(), NoMemory> {
+        for errand in 0..errands.count() {
+            if errands.get(errand).ended().is_none() {
+                let seen = self.lines.get(errands.first_of(errand) as usize);
+                if let Some(Who::Lane(lane)) = seen.map(|seen| seen.who) {
+                    self.fars.add(self.alloc, lane, errand)?;
+                }
             }
         }
         Ok(())
@@ -101,8 +151,10 @@ impl<'a> Ground<'a> {
         let alloc = self.alloc;
         self.claimants = Vec::new(alloc);
         self.on_buses = BusLines::none(alloc);
-        self.driven = LaneLines::new(alloc);
-        self.claimed = LaneLines::new(alloc);
+        self.taken = LaneLists::new(alloc);
+        self.sent = LaneLists::new(alloc);
+        self.nears = LaneLists::new(alloc);
+        self.fars = LaneLists::new(alloc);
     }
 
     /// The line at this place of the log.
@@ -134,14 +186,25 @@ impl<'a> Ground<'a> {
         self.on_buses.on_bus(bus)
     }
 
-    /// The lines that the lane drives, in the order of the bus where it ends.
-    pub(crate) fn driven_by(&self, lane: Lane) -> &[u32] {
-        self.driven.of(lane)
+    /// The posted writes that the lane took, in the order of the bus where it begins.
+    pub(crate) fn taken_by(&self, lane: Lane) -> &[u32] {
+        self.taken.of(lane)
     }
 
-    /// The lines that the lane claims, in the order of the bus where it begins.
-    pub(crate) fn claimed_by(&self, lane: Lane) -> &[u32] {
-        self.claimed.of(lane)
+    /// The posted lines that the lane drove and that were not retried, in the order of the bus where
+    /// it ends.
+    pub(crate) fn sent_by(&self, lane: Lane) -> &[u32] {
+        self.sent.of(lane)
+    }
+
+    /// The errands that the lane claims, as they began.
+    pub(crate) fn nears_of(&self, lane: Lane) -> &[u32] {
+        self.nears.of(lane)
+    }
+
+    /// The errands that the lane drives, as they ended; behind them those that did not end.
+    pub(crate) fn fars_of(&self, lane: Lane) -> &[u32] {
+        self.fars.of(lane)
     }
 
     /// The data phases in which the line transferred data, by the first and how many.
@@ -316,18 +379,6 @@ impl<'a> Ground<'a> {
     pub(crate) fn end_of(&self, lane: Lane) -> u8 {
         end_of(self.board, lane)
     }
-
-    /// Whether the line, which a lane claims, is a posted write that it took.
-    pub(crate) fn brings(&self, line: u32) -> bool {
-        self.seen(line)
-            .is_some_and(|seen| seen.is_posted() && seen.ending == Ending::Done)
-    }
-
-    /// Whether the line, which a lane drives, is a posted write that was not retried.
-    pub(crate) fn takes_away(&self, line: u32) -> bool {
-        self.seen(line)
-            .is_some_and(|seen| seen.is_posted() && seen.ending != Ending::Retry)
-    }
 }
 
 /// The first data phase of the line, and the one behind its last.
@@ -354,12 +405,27 @@ fn driven_address(address: Addressed) -> u64 {
     }
 }
 
-fn claimants(alloc: Global, board: &Board, lines: &[Seen]) -> Result<Vec<Place>, NoMemory>
+/// Who claims each line. All lines of an errand ask for the same, so that who claims the first one
+/// claims the others.
+fn claimants(
+    alloc: Global,
+    board: &Board,
+    lines: &[Seen],
+    errands: &Errands,
+) -> Result<Vec<Place>, NoMemory>
     requires { IsTrue (is_well_formed board.now) }
 {
     let mut claimants = Vec::with_capacity(alloc, lines.len())?;
-    for seen in lines {
-        claimants.push(seen.claimant(board))?;
+    for (line, seen) in lines.iter().enumerate() {
+        let first = match errands.of_line(number(line)) {
+            Some(errand) => errands.first_of(errand) as usize,
+            None => line,
+        };
+        let claimant = match claimants.get(first).copied() {
+            Some(claimant) => claimant,
+            None => seen.claimant(board),
+        };
+        claimants.push(claimant)?;
     }
     Ok(claimants)
 }

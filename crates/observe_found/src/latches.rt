@@ -3,7 +3,7 @@ use crate::ground::{Ground, NO_PLACE, Times};
 use crate::slots::Held;
 use crate::streams::Stream;
 use observe_told::{Ending, Seen};
-use pci_command::{NoMemory, Outcome};
+use pci_command::Outcome;
 
 /// A lane with what is needed to say which line latched a request there: its stream, and that of
 /// the way back.
@@ -34,6 +34,83 @@ impl Sides<'_> {
     pub(crate) fn was_asked(&self, near: u32, time: u64) -> bool {
         let asked = self.asked.get(near as usize);
         asked.is_none_or(|asked| *asked <= time)
+    }
+
+    /// Whether the near errand may be tried for the far one, with a latch from this place on.
+    pub(crate) fn may_be_for(
+        &self,
+        errands: &Errands,
+        far: &Errand,
+        near: u32,
+        asked: (Strictness, u32),
+    ) -> bool {
+        let (strictness, floor) = asked;
+        let errand = errands.get(near);
+        self.was_open(errands, far, &errand)
+            && (strictness == Strictness::Loose || self.serves(errands, far, &errand, floor))
+            && self.was_asked(near, far.deadline())
+    }
+
+    /// Whether the near errand was open at some time of the far one.
+    fn was_open(&self, errands: &Errands, far: &Errand, near: &Errand) -> bool {
+        let ground = self.ground;
+        errands.start(ground, near) <= far.deadline()
+            && errands.start(ground, far) <= errands.open_until(ground, near)
+    }
+
+    /// Whether the far errand can have been made for the near one, with a latch from this place on.
+    fn serves(&self, errands: &Errands, far: &Errand, near: &Errand, floor: u32) -> bool {
+        let ground = self.ground;
+        if !self.may_serve(errands, far, near) {
+            return false;
+        }
+        let low = floor.max(self.low_place(errands, near, near.last_far()));
+        match self.first_line(errands, near, low) {
+            Some(line) => {
+                ground.place(line) < self.high_place(far) && ground.start(line) <= far.deadline()
+            }
+            None => false,
+        }
+    }
+
+    /// Whether it can have been made for it, if there is a latch: it came in time, and what was
+    /// made for it before was done.
+    fn may_serve(&self, errands: &Errands, far: &Errand, near: &Errand) -> bool {
+        let in_time = match (near.ended(), far.ended()) {
+            (None, _) => true,
+            (Some(_), None) => false,
+            (Some(taken), Some(_made)) => far.release() <= self.ground.end(taken),
+        };
+        in_time
+            && match near.last_far() {
+                Some(before) => errands.get(before).ended().is_some(),
+                None => true,
+            }
+    }
+
+    /// Makes the far errand for the only near one that there is, if all is as the machine has it:
+    /// then it is settled. A latch that it has is one from place 0 on; and where it came in time the
+    /// near one did not end before it.
+    pub(crate) fn pair_alone(
+        &self,
+        errands: &mut Errands,
+        held: &mut Held,
+        far: u32,
+        near: u32,
+    ) -> bool {
+        let (made, asked) = (errands.get(far), errands.get(near));
+        let may_be = self.was_open(errands, &made, &asked)
+            && self.may_serve(errands, &made, &asked)
+            && self.was_asked(near, made.deadline());
+        if !may_be {
+            return false;
+        }
+        errands.give(far, near);
+        let is_settled = self.settle(errands, held, &[far], &[near], Strictness::Whole);
+        if !is_settled {
+            errands.take_back(far);
+        }
+        is_settled
     }
 
     /// The place from which on a latch for it may stand, where this far errand was made for the
@@ -91,17 +168,17 @@ impl Sides<'_> {
         fars: &[u32],
         nears: &[u32],
         strictness: Strictness,
-    ) -> Result<bool, NoMemory> {
-        if !self.latch_all(errands, fars, strictness)? {
-            return Ok(false);
+    ) -> bool {
+        if !self.latch_all(errands, fars, strictness) {
+            return false;
         }
         let is_loose = strictness == Strictness::Loose;
         if !is_loose && !self.suffices(errands, nears, strictness) {
-            return Ok(false);
+            return false;
         }
         if !held.hold(self.ground, errands, fars) && !is_loose {
             held.free(self.ground, errands, fars);
-            return Ok(false);
+            return false;
         }
         for far in fars {
             self.note_shown(errands, *far);
@@ -109,43 +186,21 @@ impl Sides<'_> {
         for near in nears {
             note_release(errands, *near);
         }
-        Ok(true)
+        true
     }
 
-    /// Whether each has a latch: then these are noted down.
-    fn latch_all(
-        &self,
-        errands: &mut Errands,
-        fars: &[u32],
-        strictness: Strictness,
-    ) -> Result<bool, NoMemory> {
-        let Some(latches) = self.latches(errands, fars, strictness)? else {
-            return Ok(false);
-        };
-        for (far, latch) in fars.iter().rev().zip(latches.as_slice()) {
-            errands.latch(*far, *latch);
-        }
-        Ok(true)
-    }
-
-    /// The latches, the last one first: there are none where one has no latch.
-    fn latches(
-        &self,
-        errands: &Errands,
-        fars: &[u32],
-        strictness: Strictness,
-    ) -> Result<Option<Vec<u32>>, NoMemory> {
-        let mut latches = Vec::new(self.ground.alloc);
+    /// Whether each has a latch. They are noted down from the last one on, up to one that has none.
+    fn latch_all(&self, errands: &mut Errands, fars: &[u32], strictness: Strictness) -> bool {
         let mut bound = NO_PLACE;
         for far in fars.iter().rev() {
-            let far = errands.get(*far);
-            let Some(latch) = self.latch_below(errands, &far, bound, strictness) else {
-                return Ok(None);
+            let given = errands.get(*far);
+            let Some(latch) = self.latch_below(errands, &given, bound, strictness) else {
+                return false;
             };
-            latches.push(latch)?;
+            errands.latch(*far, latch);
             bound = self.ground.place(latch);
         }
-        Ok(Some(latches))
+        true
     }
 
     fn latch_below(

@@ -9,7 +9,7 @@ mod depths;
 mod errands;
 mod found;
 mod ground;
-mod lane_lines;
+mod lane_lists;
 mod latches;
 mod pairing;
 mod pieces;

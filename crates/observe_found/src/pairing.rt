@@ -8,6 +8,8 @@ use crate::trial::{Lists, Trial};
 use board_model::{Lane, bridge_to};
 use observe_told::Unfound;
 use pci_command::NoMemory;
+use std::alloc::Global;
+use std::cmp::Ordering;
 
 /// How often the pairing is tried at most, each time with other orders of trying: of many errands
 /// less often, so that it is not done for more than so many in all.
@@ -51,6 +53,14 @@ struct Span {
     end: usize,
     fars: u32,
     reach: u64,
+}
+
+/// The parts of a lane: those that have at most one near errand, which mostly stand in order, and
+/// those with more.
+#[derive(Drop)]
+struct Spans {
+    few: Vec<Span>,
+    more: Vec<Span>,
 }
 
 /// What all lanes are paired by.
@@ -104,21 +114,28 @@ fn entries(ground: &Ground, lanes: &[Lane], errands: &Errands) -> Result<Vec<Ent
 /// The entries of a lane with what they are sorted by, as they are sorted.
 fn keyed_of(ground: &Ground, lane: Lane, errands: &Errands) -> Result<Vec<Keyed>, NoMemory> {
     let mut keyed = Vec::new(ground.alloc);
-    for line in ground.claimed_by(lane) {
-        if let Some(near) = errands.begun_at(*line) {
-            keyed.push(keyed_by(ground, *line, near, false))?;
-        }
+    for near in ground.nears_of(lane) {
+        keyed.push(keyed_by(ground, errands, *near, false))?;
     }
-    for line in ground.driven_by(lane) {
-        if let Some(far) = errands.begun_at(*line) {
-            keyed.push(keyed_by(ground, *line, far, true))?;
-        }
+    for far in ground.fars_of(lane) {
+        keyed.push(keyed_by(ground, errands, *far, true))?;
     }
-    keyed.sort_unstable();
+    keyed.sort_unstable_by(|one, other| one.order(other));
     Ok(keyed)
 }
 
-fn keyed_by(ground: &Ground, line: u32, errand: u32, is_far: bool) -> Keyed {
+impl Keyed {
+    /// Mostly the addresses tell it already.
+    fn order(&self, other: &Keyed) -> Ordering {
+        match self.wanted.address.cmp(&other.wanted.address) {
+            Ordering::Equal => self.cmp(other),
+            decided => decided,
+        }
+    }
+}
+
+fn keyed_by(ground: &Ground, errands: &Errands, errand: u32, is_far: bool) -> Keyed {
+    let line = errands.first_of(errand);
     Keyed {
         wanted: wanted(ground, line),
         start: ground.start(line),
@@ -162,7 +179,10 @@ fn asked_times(
     for (place, entry) in entries.iter().enumerate() {
         if place == end {
             let behind = entries.get(place..).unwrap_or(&[]);
-            let count = behind.partition_point(|other| other.request == entry.request);
+            let same = behind
+                .iter()
+                .take_while(|other| other.request == entry.request);
+            let count = same.count();
             end = place.saturating_add(count);
             let same = behind.get(..count).unwrap_or(&[]);
             note_asked(ground, same, errands, &mut asked)?;
@@ -269,6 +289,37 @@ impl Span {
     }
 }
 
+impl Spans {
+    fn new(alloc: Global) -> Spans {
+        Spans {
+            few: Vec::new(alloc),
+            more: Vec::new(alloc),
+        }
+    }
+
+    /// One more, if it has far errands.
+    fn add(&mut self, span: Span) -> Result<(), NoMemory> {
+        if span.fars == 0 {
+            return Ok(());
+        }
+        if span.nears <= 1 {
+            self.few.push(span)?;
+        } else {
+            self.more.push(span)?;
+        }
+        Ok(())
+    }
+
+    /// All of them in order.
+    fn sorted(self) -> Result<Vec<Span>, NoMemory> {
+        let Spans { mut few, mut more } = self;
+        few.sort_unstable();
+        more.sort_unstable();
+        few.append(&mut more)?;
+        Ok(few)
+    }
+}
+
 impl Lanes<'_> {
     /// Pairs all lanes with other orders of trying until each part has a choice that suffices; where
     /// none of them does, once more so that it shows what is wrong.
@@ -321,6 +372,12 @@ impl Lanes<'_> {
         let mut part = Part::new(self.ground);
         let mut lists = Lists::new(self.ground.alloc);
         for span in &spans {
+            if let Some((far, near, first)) = only_two(own, span)
+                && sides.pair_alone(errands, &mut held, far, near)
+            {
+                choices.mend(rank, first);
+                continue;
+            }
             part.fill(self.ground, own, span, errands)?;
             sort_by_shown(self.ground, errands, &mut part.fars);
             let trying = choices.of(&part.of);
@@ -350,7 +407,7 @@ impl Lanes<'_> {
 
     /// The parts of a lane that have far errands. Of these only such count as have an effect.
     fn spans(&self, own: &[Entry], errands: &Errands) -> Result<Vec<Span>, NoMemory> {
-        let mut spans = Vec::new(self.ground.alloc);
+        let mut spans = Spans::new(self.ground.alloc);
         let mut span = Span::default();
         for (place, entry) in own.iter().enumerate() {
             let errand = errands.get(entry.errand);
@@ -362,7 +419,7 @@ impl Lanes<'_> {
                 .get(span.first)
                 .is_some_and(|before| span.goes_on(before, entry, start));
             if !goes_on {
-                list_span(&mut spans, span)?;
+                spans.add(span)?;
                 span = Span {
                     first: place,
                     ..Span::default()
@@ -371,9 +428,8 @@ impl Lanes<'_> {
             let until = errands.open_until(self.ground, &errand);
             span = span.with(place, entry.is_far, until);
         }
-        list_span(&mut spans, span)?;
-        spans.sort_unstable();
-        Ok(spans)
+        spans.add(span)?;
+        spans.sorted()
     }
 
     fn try_part(
@@ -405,6 +461,19 @@ impl Lanes<'_> {
     }
 }
 
+/// Of a part of one far and one near errand these, and which of them is the first.
+fn only_two(own: &[Entry], span: &Span) -> Option<(u32, u32, u32)> {
+    match own.get(span.first..span.end)? {
+        [first, second] if second.is_far && !first.is_far => {
+            Some((second.errand, first.errand, first.errand))
+        }
+        [first, second] if first.is_far && !second.is_far => {
+            Some((first.errand, second.errand, first.errand))
+        }
+        _ => None,
+    }
+}
+
 /// Whether the part has a choice that suffices; where too many would have to be tried it has none,
 /// if others are tried otherwise.
 fn suffices(
@@ -417,13 +486,6 @@ fn suffices(
         Err(Unfound::TooManyPairings { .. }) if may_fail => Ok(false),
         found => found,
     }
-}
-
-fn list_span(spans: &mut Vec<Span>, span: Span) -> Result<(), NoMemory> {
-    if span.fars > 0 {
-        spans.push(span)?;
-    }
-    Ok(())
 }
 
 /// Far errands in the order in which they were shown.

@@ -75,7 +75,7 @@ pub(crate) struct Streams {
 struct Flow {
     stream: Stream,
     waiting: VecDeque<u32>,
-    /// How many lines that the lane claims were looked at.
+    /// How many lines that the lane took were looked at.
     near: usize,
     gone: u32,
 }
@@ -162,11 +162,9 @@ impl Streams {
     }
 
     fn follow_flow(&mut self, ground: &Ground, lane: Lane, flow: &mut Flow) -> Result<(), Unfound> {
-        for line in ground.driven_by(lane) {
-            if ground.takes_away(*line) {
-                flow.bring(ground, ground.end(*line))?;
-                self.take_away(ground, flow, *line, ground.place(*line))?;
-            }
+        for line in ground.sent_by(lane) {
+            flow.bring(ground, ground.end(*line))?;
+            self.take_away(ground, flow, *line, ground.place(*line))?;
         }
         flow.bring(ground, u64::MAX)?;
         Ok(())
@@ -268,15 +266,11 @@ impl Streams {
 
     /// The cuts that the far bus of the lane made, or that were made beyond it.
     fn cut(&mut self, ground: &Ground, lane: Lane) {
-        for line in ground.driven_by(lane) {
-            if ground.takes_away(*line) {
-                self.hand_cuts_on(ground, *line);
-            }
+        for line in ground.sent_by(lane) {
+            self.hand_cuts_on(ground, *line);
         }
-        for line in ground.claimed_by(lane) {
-            if ground.brings(*line) {
-                self.cut_between_takers(ground, *line);
-            }
+        for line in ground.taken_by(lane) {
+            self.cut_between_takers(ground, *line);
         }
     }
 
@@ -349,14 +343,12 @@ impl Flow {
     /// What lines of the near bus brought that began by this time.
     fn bring(&mut self, ground: &Ground, until: u64) -> Result<(), NoMemory> {
         let lane = self.stream.lane;
-        let lines = ground.claimed_by(lane);
+        let lines = ground.taken_by(lane);
         for line in lines.get(self.near..).unwrap_or(&[]) {
             if ground.start(*line) > until {
                 break;
             }
-            if ground.brings(*line) {
-                self.bring_line(ground, *line)?;
-            }
+            self.bring_line(ground, *line)?;
             self.near = self.near.saturating_add(1);
         }
         Ok(())

@@ -126,6 +126,36 @@ impl Lists {
             .sort_unstable_by_key(|near| errands.open_until(ground, &errands.get(*near)));
         Ok(())
     }
+
+    /// Lists the near errands that may be tried for the far one, behind the queue.
+    fn list_nears(
+        &mut self,
+        sides: &Sides,
+        errands: &Errands,
+        far: &Errand,
+        asked: (Strictness, u32),
+    ) -> Result<(), NoMemory> {
+        let ground = sides.ground;
+        let start = errands.start(ground, far);
+        let first = self
+            .reaches
+            .as_slice()
+            .partition_point(|reach| *reach < start);
+        for near in self.ended.iter().skip(first) {
+            if errands.start(ground, &errands.get(*near)) > far.deadline() {
+                break;
+            }
+            if sides.may_be_for(errands, far, *near, asked) {
+                self.queue.push(*near)?;
+            }
+        }
+        for near in &self.endless {
+            if sides.may_be_for(errands, far, *near, asked) {
+                self.queue.push(*near)?;
+            }
+        }
+        Ok(())
+    }
 }
 
 impl<'a> Trial<'a> {
@@ -199,7 +229,7 @@ impl<'a> Trial<'a> {
             if self.lists.levels.len() < fars.len() {
                 let floor = self.floor_behind(errands, far);
                 self.open(errands, strictness, floor)?;
-            } else if sides.settle(errands, held, fars, nears, strictness)? {
+            } else if sides.settle(errands, held, fars, nears, strictness) {
                 return Ok(true);
             } else {
                 steps = steps.saturating_add(fars.len() / 64);
@@ -321,41 +351,31 @@ impl<'a> Trial<'a> {
         strictness: Strictness,
         floor: u32,
     ) -> Result<(), NoMemory> {
+        let from = self.lists.queue.len();
+        self.lists
+            .list_nears(&self.sides, errands, far, (strictness, floor))?;
+        if self.lists.queue.len().saturating_sub(from) > 1 {
+            self.sort_nears(errands, far, from)?;
+        }
+        Ok(())
+    }
+
+    /// Brings those from this place of the queue on into the order of trying.
+    fn sort_nears(&mut self, errands: &Errands, far: &Errand, from: usize) -> Result<(), NoMemory> {
         let mut ranks = replace(&mut self.lists.ranks, Vec::new(self.sides.ground.alloc));
         ranks.clear();
-        self.list_ranks(errands, far, (strictness, floor), &mut ranks)?;
+        for near in self.lists.queue.get(from..).unwrap_or(&[]) {
+            ranks.push(self.rank(errands, far, *near))?;
+        }
         if self.trying == Trying::Staying {
             self.put_behind(errands, &mut ranks)?;
         }
         ranks.sort_unstable();
+        self.lists.queue.truncate(from);
         for rank in &ranks {
             self.lists.queue.push(rank.near)?;
         }
         self.lists.ranks = ranks;
-        Ok(())
-    }
-
-    fn list_ranks(
-        &self,
-        errands: &Errands,
-        far: &Errand,
-        asked: (Strictness, u32),
-        ranks: &mut Vec<Rank>,
-    ) -> Result<(), NoMemory> {
-        let ground = self.sides.ground;
-        let start = errands.start(ground, far);
-        let reaches = self.lists.reaches.as_slice();
-        let first = reaches.partition_point(|reach| *reach < start);
-        for near in self.lists.ended.iter().skip(first) {
-            let errand = errands.get(*near);
-            if errands.start(ground, &errand) > far.deadline() {
-                break;
-            }
-            self.rank_in(errands, far, *near, asked, ranks)?;
-        }
-        for near in &self.lists.endless {
-            self.rank_in(errands, far, *near, asked, ranks)?;
-        }
         Ok(())
     }
 
@@ -396,55 +416,6 @@ impl<'a> Trial<'a> {
             (Some(first), Some(other)) => first.who == other.who && first.start < other.start,
             _ => false,
         }
-    }
-
-    fn rank_in(
-        &self,
-        errands: &Errands,
-        far: &Errand,
-        near: u32,
-        asked: (Strictness, u32),
-        ranks: &mut Vec<Rank>,
-    ) -> Result<(), NoMemory> {
-        let (strictness, floor) = asked;
-        let errand = errands.get(near);
-        let was_open = self.was_open(errands, far, &errand);
-        let serves = strictness == Strictness::Loose || self.serves(errands, far, &errand, floor);
-        if was_open && serves && self.sides.was_asked(near, far.deadline()) {
-            ranks.push(self.rank(errands, far, near))?;
-        }
-        Ok(())
-    }
-
-    /// Whether the near errand was open at some time of the far one.
-    fn was_open(&self, errands: &Errands, far: &Errand, near: &Errand) -> bool {
-        let ground = self.sides.ground;
-        errands.start(ground, near) <= far.deadline()
-            && errands.start(ground, far) <= errands.open_until(ground, near)
-    }
-
-    /// Whether the far errand can have been made for the near one, with a latch from this place on.
-    fn serves(&self, errands: &Errands, far: &Errand, near: &Errand, floor: u32) -> bool {
-        let ground = self.sides.ground;
-        let in_time = match (near.ended(), far.ended()) {
-            (None, _) => true,
-            (Some(_), None) => false,
-            (Some(taken), Some(_made)) => far.release() <= ground.end(taken),
-        };
-        let is_free = match near.last_far() {
-            Some(before) => errands.get(before).ended().is_some(),
-            None => true,
-        };
-        let low = floor.max(self.sides.low_place(errands, near, near.last_far()));
-        in_time
-            && is_free
-            && match self.sides.first_line(errands, near, low) {
-                Some(line) => {
-                    ground.place(line) < self.sides.high_place(far)
-                        && ground.start(line) <= far.deadline()
-                }
-                None => false,
-            }
     }
 
     fn rank(&self, errands: &Errands, far: &Errand, near: u32) -> Rank {

@@ -58,15 +58,19 @@ impl Openings {
     /// Lists the dwords that may have opened as something else than 0.
     fn list_all(&mut self, ground: &Ground) -> Result<(), NoMemory> {
         for (line, seen) in ground.lines.iter().enumerate() {
-            if !seen.command.is_read() {
-                continue;
+            if seen.command.is_read()
+                && let Some(first) = first_dword(ground, number(line), seen)
+            {
+                self.list_read(first, looked_at(ground, seen))?;
             }
-            for (count, phase) in looked_at(ground, seen).iter().enumerate() {
-                if phase.value != 0
-                    && let Some(dword) = dword_at(ground, number(line), seen, count)
-                {
-                    self.dwords.insert(dword, Known::default())?;
-                }
+        }
+        Ok(())
+    }
+
+    fn list_read(&mut self, first: Dword, phases: &[Phase]) -> Result<(), NoMemory> {
+        for (count, phase) in phases.iter().enumerate() {
+            if phase.value != 0 {
+                self.dwords.insert(first.behind(count), Known::default())?;
             }
         }
         Ok(())
@@ -102,10 +106,11 @@ impl Openings {
     }
 
     fn follow(&mut self, ground: &Ground, line: u32, seen: &Seen) -> Result<(), Unfound> {
+        let Some(first) = first_dword(ground, line, seen) else {
+            return Ok(());
+        };
         for (count, phase) in looked_at(ground, seen).iter().enumerate() {
-            let Some(dword) = dword_at(ground, line, seen, count) else {
-                return Ok(());
-            };
+            let dword = first.behind(count);
             if self.look(&dword, seen.command.is_read(), phase) {
                 self.count(dword.target, line)?;
             }
@@ -166,16 +171,24 @@ impl Further {
     }
 }
 
-/// The dword of this data phase of the line, where a target claims it in memory or I/O.
-fn dword_at(ground: &Ground, line: u32, seen: &Seen, phase: usize) -> Option<Dword> {
+impl Dword {
+    /// So many dwords behind this one.
+    fn behind(self, count: usize) -> Dword {
+        Dword {
+            address: self.address.saturating_add(4 * (count as u64 & 0xff_ffff)),
+            ..self
+        }
+    }
+}
+
+/// The dword of the first data phase of the line, where a target claims it in memory or I/O.
+fn first_dword(ground: &Ground, line: u32, seen: &Seen) -> Option<Dword> {
     let space = seen.command.space();
     match ground.claimant(line) {
         Place::Target(target) if space != Space::Cfg => Some(Dword {
             target,
             is_io: space == Space::Io,
-            address: ground
-                .first_address(line)
-                .saturating_add(4 * (phase as u64 & 0xff_ffff)),
+            address: ground.first_address(line),
         }),
         _ => None,
     }
