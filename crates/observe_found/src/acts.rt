@@ -146,11 +146,10 @@ impl Deeds<'_> {
 
     /// How a delayed request ended.
     fn end(&self, line: u32, seen: &Seen, op: OpId, acts: &mut LineActs) -> Result<(), NoMemory> {
-        let is_of_lane = matches!(self.ground.claimant(line), Place::Lane(_));
         match seen.ending {
             Ending::Retry => Ok(()),
             Ending::Nobody => self.push(line, (op, Step::MasterAbort), acts),
-            _ if is_of_lane => {
+            _ if matches!(self.ground.claimant(line), Place::Lane(_)) => {
                 let step = Step::Take(outcome(self.ground, seen));
                 self.push(line, (op, step), acts)
             }

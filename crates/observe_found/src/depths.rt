@@ -210,10 +210,8 @@ impl Held {
         phase: Option<u32>,
         before: Option<u32>,
     ) -> Option<u32> {
-        let op = phase.and_then(|phase| streams.op_of(phase));
-        let op_before = before.and_then(|before| streams.op_of(before));
         if let Some(phase) = phase
-            && (before.is_none() || op != op_before)
+            && begins_piece(streams, before, phase)
         {
             self.pieces_left = self.pieces_left.saturating_add(1);
             let line = ground.line_of(phase);
@@ -226,17 +224,21 @@ impl Held {
     }
 }
 
+/// Whether the data phase is of another operation than the one before, if there is one.
+fn begins_piece(streams: &Streams, before: Option<u32>, phase: u32) -> bool {
+    before.is_none_or(|before| streams.op_of(before) != streams.op_of(phase))
+}
+
 /// Of how many operations the data phases of a line are.
 fn pieces_of(ground: &Ground, streams: &Streams, line: u32) -> u32 {
     let (first, end) = ground.span(line);
     let mut count = 0u32;
     let mut before = None;
     for phase in first..end {
-        let op = streams.op_of(phase);
-        if op != before || phase == first {
+        if begins_piece(streams, before, phase) {
             count = count.saturating_add(1);
         }
-        before = op;
+        before = Some(phase);
     }
     count
 }

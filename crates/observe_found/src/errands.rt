@@ -1,4 +1,4 @@
-ghost use Rattle.std.specs.Prelude.{◌+◌, ◌*◌, ◌^◌, ◌++◌};
+ghost use Rattle.std.specs.Prelude.{◌+◌, ◌*◌, ◌%◌, ◌^◌};
 ghost use Rattle.std.specs.Hash as fed;
 ghost use Rattle.std.specs.Cmp.Rules.{hashing};
 ghost use Rattle.std.proofs.Common.{rules};
@@ -62,16 +62,21 @@ enum Asker {
     Lane(u8, bool),
 }
 
-/// Few things that are asked have one address, bus and word, so these are written alone, as two
-/// numbers, in place of one for each field.
+/// Few things that are asked at a time have one bus and the same low bits in address and word, so
+/// these are written alone, as one number, in place of one for each field.
 impl Hash for Asked {
-    ghost hash_input = { λ a. fed.u64 a.wanted.address ++ fed.u64 (a.wanted.value + 2 ^ 32 * a.bus) };
+    ghost hash_input = { λ a. fed.u64 (a.wanted.address % 2 ^ 32 + 2 ^ 32 * (a.wanted.value % 2 ^ 24) + 2 ^ 56 * a.bus) };
 
     ghost respects_eq = { Prim.search (hashing, rules) };
 
     fn hash<H: Hasher>(&self, state: &mut H) {
-        state.write_u64(self.wanted.address);
-        state.write_u64(u64::from(self.wanted.value) + 0x1_0000_0000 * u64::from(self.bus));
+        let Wanted { address, value, .. } = self.wanted;
+        let (value, bus) = (u64::from(value), u64::from(self.bus));
+        state.write_u64(
+            address % 0x1_0000_0000
+                + 0x1_0000_0000 * (value % 0x100_0000)
+                + 0x100_0000_0000_0000 * bus,
+        );
     }
 }
 

@@ -1,6 +1,3 @@
-ghost use Rattle.std.specs.Prelude.{IsTrue};
-ghost use Rattle.board_model.specs.WellFormed.{is_well_formed};
-
 use crate::errands::Errands;
 use crate::lane_lists::LaneLists;
 use board_model::{Board, Lane, Place, bridge_to, end_of, primary_of};
@@ -85,22 +82,32 @@ impl<'a> Ground<'a> {
         })
     }
 
-    /// Says who claims each line, and lists what is looked at lane by lane.
+    /// Says who claims each line, and lists what is looked at lane by lane. All lines of an errand
+    /// ask for the same, so that who claims the first one claims the others.
     pub(crate) fn claim(&mut self, tree: &Tree, errands: &Errands) -> Result<(), NoMemory> {
-        self.claimants = claimants(self.alloc, tree.board(), self.lines, errands)?;
-        for (line, seen) in self.lines.iter().enumerate() {
-            let line = number(line);
-            match errands.of_line(line) {
-                Some(errand) => self.list_errand(errands, errand, line, seen)?,
-                None => self.list_posted(line, seen)?,
+        let board = tree.board();
+        self.claimants.reserve(self.lines.len())?;
+        for (place, seen) in self.lines.iter().enumerate() {
+            let line = number(place);
+            let errand = errands.of_line(line);
+            let first = errand.map_or(line, |errand| errands.first_of(errand));
+            let claimant = match self.claimants.get(first as usize).copied() {
+                Some(claimant) => claimant,
+                None => seen.claimant(board),
+            };
+            self.claimants.push(claimant)?;
+            match errand {
+                Some(errand) if first == line => self.list_begun(errand, claimant, seen)?,
+                Some(errand) => self.list_ended(errand, seen)?,
+                None => self.list_posted(line, claimant, seen)?,
             }
         }
         self.list_open(errands)
     }
 
-    fn list_posted(&mut self, line: u32, seen: &Seen) -> Result<(), NoMemory> {
+    fn list_posted(&mut self, line: u32, claimant: Place, seen: &Seen) -> Result<(), NoMemory> {
         if seen.ending == Ending::Done
-            && let Place::Lane(lane) = self.claimant(line)
+            && let Place::Lane(lane) = claimant
         {
             self.taken.add(self.alloc, lane, line)?;
         }
@@ -112,19 +119,16 @@ impl<'a> Ground<'a> {
         Ok(())
     }
 
-    /// The errand of the line, where this begins or ends it.
-    fn list_errand(
-        &mut self,
-        errands: &Errands,
-        errand: u32,
-        line: u32,
-        seen: &Seen,
-    ) -> Result<(), NoMemory> {
-        if errands.first_of(errand) == line
-            && let Place::Lane(lane) = self.claimant(line)
-        {
+    /// The errand of its first line.
+    fn list_begun(&mut self, errand: u32, claimant: Place, seen: &Seen) -> Result<(), NoMemory> {
+        if let Place::Lane(lane) = claimant {
             self.nears.add(self.alloc, lane, errand)?;
         }
+        self.list_ended(errand, seen)
+    }
+
+    /// The errand of the line, where this ends it.
+    fn list_ended(&mut self, errand: u32, seen: &Seen) -> Result<(), NoMemory> {
         if seen.ending != Ending::Retry
             && let Who::Lane(lane) = seen.who
         {
@@ -403,31 +407,6 @@ fn driven_address(address: Addressed) -> u64 {
         } => NO_DEVICE + 4 * u64::from(register),
         _ => address.driven().unwrap_or(NO_DEVICE),
     }
-}
-
-/// Who claims each line. All lines of an errand ask for the same, so that who claims the first one
-/// claims the others.
-fn claimants(
-    alloc: Global,
-    board: &Board,
-    lines: &[Seen],
-    errands: &Errands,
-) -> Result<Vec<Place>, NoMemory>
-    requires { IsTrue (is_well_formed board.now) }
-{
-    let mut claimants = Vec::with_capacity(alloc, lines.len())?;
-    for (line, seen) in lines.iter().enumerate() {
-        let first = match errands.of_line(number(line)) {
-            Some(errand) => errands.first_of(errand) as usize,
-            None => line,
-        };
-        let claimant = match claimants.get(first).copied() {
-            Some(claimant) => claimant,
-            None => seen.claimant(board),
-        };
-        claimants.push(claimant)?;
-    }
-    Ok(claimants)
 }
 
 fn lines_of_phases(alloc: Global, lines: &[Seen], count: usize) -> Result<Vec<u32>, NoMemory> {

@@ -9,7 +9,6 @@ use board_model::{Lane, bridge_to};
 use observe_told::Unfound;
 use pci_command::NoMemory;
 use std::alloc::Global;
-use std::cmp::Ordering;
 
 /// How often the pairing is tried at most, each time with other orders of trying: of many errands
 /// less often, so that it is not done for more than so many in all.
@@ -120,17 +119,16 @@ fn keyed_of(ground: &Ground, lane: Lane, errands: &Errands) -> Result<Vec<Keyed>
     for far in ground.fars_of(lane) {
         keyed.push(keyed_by(ground, errands, *far, true))?;
     }
-    keyed.sort_unstable_by(|one, other| one.order(other));
+    sort_keyed(keyed.as_mut_slice());
     Ok(keyed)
 }
 
-impl Keyed {
-    /// Mostly the addresses tell it already.
-    fn order(&self, other: &Keyed) -> Ordering {
-        match self.wanted.address.cmp(&other.wanted.address) {
-            Ordering::Equal => self.cmp(other),
-            decided => decided,
-        }
+/// Sorts entries, first by their addresses alone, since two numbers are sooner compared than two
+/// entries.
+fn sort_keyed(keyed: &mut [Keyed]) {
+    keyed.sort_unstable_by_key(|keyed| keyed.wanted.address);
+    for same in keyed.chunk_by_mut(|one, other| one.wanted.address == other.wanted.address) {
+        same.sort_unstable();
     }
 }
 
@@ -175,18 +173,10 @@ fn asked_times(
     errands: &Errands,
 ) -> Result<Vec<u64>, NoMemory> {
     let mut asked = vec![in ground.alloc; 0u64; errands.count() as usize]?;
-    let mut end = 0usize;
-    for (place, entry) in entries.iter().enumerate() {
-        if place == end {
-            let behind = entries.get(place..).unwrap_or(&[]);
-            let same = behind
-                .iter()
-                .take_while(|other| other.request == entry.request);
-            let count = same.count();
-            end = place.saturating_add(count);
-            let same = behind.get(..count).unwrap_or(&[]);
-            note_asked(ground, same, errands, &mut asked)?;
-        }
+    let mut reaches = Vec::new(ground.alloc);
+    for same in entries.chunk_by(|one, other| one.request == other.request) {
+        list_reaches(ground, same, errands, &mut reaches)?;
+        note_asked(ground, same, errands, reaches.as_slice(), &mut asked);
     }
     Ok(asked)
 }
@@ -197,24 +187,28 @@ fn note_asked(
     ground: &Ground,
     same: &[Entry],
     errands: &Errands,
+    reaches: &[u64],
     asked: &mut Vec<u64>,
-) -> Result<(), NoMemory> {
-    let reaches = reaches_of(ground, same, errands)?;
+) {
     for far in same.iter().filter(|entry| entry.is_far) {
         let ended = errands.get(far.errand).ended();
         let ended = ended.map_or(NO_TIME, |line| ground.start(line));
-        let at = reaches.as_slice().partition_point(|reach| *reach < ended);
+        let at = reaches.partition_point(|reach| *reach < ended);
         let near = same.get(at).map(|near| errands.get(near.errand));
         if let Some(slot) = asked.get_mut(far.errand as usize) {
             *slot = near.map_or(NO_TIME, |near| errands.start(ground, &near));
         }
     }
-    Ok(())
 }
 
 /// Of each of them how long it and the near ones before it were open.
-fn reaches_of(ground: &Ground, same: &[Entry], errands: &Errands) -> Result<Vec<u64>, NoMemory> {
-    let mut reaches = Vec::new(ground.alloc);
+fn list_reaches(
+    ground: &Ground,
+    same: &[Entry],
+    errands: &Errands,
+    reaches: &mut Vec<u64>,
+) -> Result<(), NoMemory> {
+    reaches.clear();
     let mut reach = 0u64;
     for entry in same {
         if !entry.is_far {
@@ -222,7 +216,7 @@ fn reaches_of(ground: &Ground, same: &[Entry], errands: &Errands) -> Result<Vec<
         }
         reaches.push(reach)?;
     }
-    Ok(reaches)
+    Ok(())
 }
 
 fn wanted(ground: &Ground, line: u32) -> Wanted {

@@ -20,7 +20,7 @@ struct Hold {
 /// How many slots of a lane are free again before a line of the bus where it begins, held from it
 /// on, and free again behind it. What frees a slot elsewhere comes before a latch of the same line,
 /// and what frees it there behind it.
-#[derive(Clone, Copy, Default)]
+#[derive(Clone, Copy, Default, PartialEq, Eq)]
 pub(crate) struct Change {
     before: u16,
     latched: u16,
@@ -31,6 +31,9 @@ pub(crate) struct Change {
 pub(crate) fn overflows(changes: &[Change], slots: u32) -> bool {
     let mut held = 0u32;
     for change in changes {
+        if *change == Change::default() {
+            continue;
+        }
         held = held.saturating_sub(u32::from(change.before));
         held = held.saturating_add(u32::from(change.latched));
         if held > slots {

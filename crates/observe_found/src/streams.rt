@@ -46,11 +46,12 @@ pub(crate) struct Lost {
     pub(crate) count: u32,
 }
 
-/// A line of the far bus, by its place there, and how many data phases had left with it.
-#[derive(Clone, Copy)]
-struct Left {
-    place: u32,
-    count: u32,
+/// Places on a bus in their order, and of each so many lines of the bus how many of them stand
+/// before these.
+#[derive(Drop)]
+struct BusPlaces {
+    all: Vec<u32>,
+    before: Vec<u32>,
 }
 
 /// The data phases that a lane took, in order, and how they left.
@@ -58,8 +59,10 @@ struct Left {
 pub(crate) struct Stream {
     pub(crate) lane: Lane,
     /// Of each the place of its line on the near bus.
-    places: Vec<u32>,
-    left: Vec<Left>,
+    brought: BusPlaces,
+    /// The places of the lines of the far bus with which some left, and how many had left then.
+    left: BusPlaces,
+    counts: Vec<u32>,
 }
 
 /// The streams of all lanes.
@@ -101,29 +104,63 @@ impl Kept {
     }
 }
 
+impl BusPlaces {
+    /// None yet.
+    fn new(alloc: Global) -> BusPlaces {
+        BusPlaces {
+            all: Vec::new(alloc),
+            before: Vec::new(alloc),
+        }
+    }
+
+    /// One more, behind all others.
+    fn add(&mut self, place: u32) -> Result<(), NoMemory> {
+        let count = number(self.all.len());
+        for _block in self.before.len()..=block_of(place) {
+            self.before.push(count)?;
+        }
+        self.all.push(place)?;
+        Ok(())
+    }
+
+    /// How many stand before this place.
+    fn before(&self, place: u32) -> usize {
+        let block = block_of(place);
+        let first = self.first_of(block);
+        let own = self.all.get(first..self.first_of(block.saturating_add(1)));
+        first.saturating_add(own.unwrap_or(&[]).partition_point(|own| *own < place))
+    }
+
+    /// How many stand before this block of lines.
+    fn first_of(&self, block: usize) -> usize {
+        match self.before.get(block) {
+            Some(before) => *before as usize,
+            None => self.all.len(),
+        }
+    }
+}
+
+/// The block of lines in which the place stands.
+fn block_of(place: u32) -> usize {
+    (place / 32) as usize
+}
+
 impl Stream {
     /// How many data phases had left before this place of the far bus.
     pub(crate) fn left_before(&self, place: u32) -> u32 {
-        let left = self.left.as_slice();
-        let count = left.partition_point(|left| left.place < place);
-        match count.checked_sub(1).and_then(|last| left.get(last)) {
-            Some(left) => left.count,
-            None => 0,
-        }
+        let last = self.left.before(place).checked_sub(1);
+        let count = last.and_then(|last| self.counts.get(last));
+        count.copied().unwrap_or(0)
     }
 
     /// How many data phases lines before this place of the near bus brought.
     pub(crate) fn brought_before(&self, place: u32) -> u32 {
-        number(
-            self.places
-                .as_slice()
-                .partition_point(|brought| *brought < place),
-        )
+        number(self.brought.before(place))
     }
 
     /// The place on the near bus of the line that brought the data phase of this number, from 0.
     pub(crate) fn place_of(&self, count: u32) -> Option<u32> {
-        self.places.get(count as usize).copied()
+        self.brought.all.get(count as usize).copied()
     }
 }
 
@@ -329,8 +366,9 @@ impl Flow {
     fn new(ground: &Ground, lane: Lane) -> Flow {
         let stream = Stream {
             lane,
-            places: Vec::new(ground.alloc),
-            left: Vec::new(ground.alloc),
+            brought: BusPlaces::new(ground.alloc),
+            left: BusPlaces::new(ground.alloc),
+            counts: Vec::new(ground.alloc),
         };
         Flow {
             stream,
@@ -357,7 +395,7 @@ impl Flow {
     fn bring_line(&mut self, ground: &Ground, line: u32) -> Result<(), NoMemory> {
         let (first, end) = ground.span(line);
         for phase in first..end {
-            self.stream.places.push(ground.place(line))?;
+            self.stream.brought.add(ground.place(line))?;
             self.waiting.push_back(phase)?;
         }
         Ok(())
@@ -419,8 +457,8 @@ impl Flow {
     }
 
     fn note_left(&mut self, place: u32) -> Result<(), NoMemory> {
-        let count = self.gone;
-        self.stream.left.push(Left { place, count })?;
+        self.stream.left.add(place)?;
+        self.stream.counts.push(self.gone)?;
         Ok(())
     }
 

@@ -364,8 +364,10 @@ impl<'a> Trial<'a> {
     fn sort_nears(&mut self, errands: &Errands, far: &Errand, from: usize) -> Result<(), NoMemory> {
         let mut ranks = replace(&mut self.lists.ranks, Vec::new(self.sides.ground.alloc));
         ranks.clear();
-        for near in self.lists.queue.get(from..).unwrap_or(&[]) {
-            ranks.push(self.rank(errands, far, *near))?;
+        for at in from..self.lists.queue.len() {
+            if let Some(near) = self.lists.queue.get(at).copied() {
+                ranks.push(self.rank(errands, far, near))?;
+            }
         }
         if self.trying == Trying::Staying {
             self.put_behind(errands, &mut ranks)?;

@@ -1,19 +1,35 @@
+ghost use Rattle.std.specs.Hash as fed;
+ghost use Rattle.std.specs.Cmp.Rules.{hashing};
+ghost use Rattle.std.proofs.Common.{rules};
+
 use crate::ground::{Ground, number};
 use board_model::{Opening, Place};
-use observe_told::{Seen, Unfound, Who};
+use observe_told::{Addressed, Seen, Unfound, Who};
 use pci_command::{NoMemory, Phase, Space};
 use std::alloc::Global;
 use std::collections::HashMap;
+use std::hash::{Hash, Hasher};
 
 /// How many opening words a target has at most.
 const MOST_OPENINGS: usize = 256;
 
 /// A dword of a target, in memory or I/O.
-#[derive(Clone, Copy, PartialEq, Eq, PartialOrd, Ord, Hash)]
+#[derive(Clone, Copy, PartialEq, Eq, PartialOrd, Ord)]
 struct Dword {
     target: u16,
     is_io: bool,
     address: u64,
+}
+
+/// No two targets have the same addresses, so these are written alone.
+impl Hash for Dword {
+    ghost hash_input = { λ dword. fed.u64 dword.address };
+
+    ghost respects_eq = { Prim.search (hashing, rules) };
+
+    fn hash<H: Hasher>(&self, state: &mut H) {
+        state.write_u64(self.address);
+    }
 }
 
 /// Which bytes of a dword are known, since they were read or written, and what it opened as.
@@ -59,9 +75,9 @@ impl Openings {
     fn list_all(&mut self, ground: &Ground) -> Result<(), NoMemory> {
         for (line, seen) in ground.lines.iter().enumerate() {
             if seen.command.is_read()
-                && let Some(first) = first_dword(ground, number(line), seen)
+                && let Some(target) = target_of(ground, number(line), seen)
             {
-                self.list_read(first, looked_at(ground, seen))?;
+                self.list_read(first_dword(seen, target), looked_at(ground, seen))?;
             }
         }
         Ok(())
@@ -85,9 +101,12 @@ impl Openings {
                 self.know_given(place, opening);
             }
         }
-        if !self.dwords.is_empty() {
-            for (line, seen) in ground.lines.iter().enumerate() {
-                self.follow(ground, number(line), seen)?;
+        if self.dwords.is_empty() {
+            return Ok(());
+        }
+        for (line, seen) in ground.lines.iter().enumerate() {
+            if let Some(target) = target_of(ground, number(line), seen) {
+                self.follow(ground, number(line), seen, first_dword(seen, target))?;
             }
         }
         Ok(())
@@ -105,10 +124,14 @@ impl Openings {
         }
     }
 
-    fn follow(&mut self, ground: &Ground, line: u32, seen: &Seen) -> Result<(), Unfound> {
-        let Some(first) = first_dword(ground, line, seen) else {
-            return Ok(());
-        };
+    /// The data phases of the line, which are of this dword and those behind it.
+    fn follow(
+        &mut self,
+        ground: &Ground,
+        line: u32,
+        seen: &Seen,
+        first: Dword,
+    ) -> Result<(), Unfound> {
         for (count, phase) in looked_at(ground, seen).iter().enumerate() {
             let dword = first.behind(count);
             if self.look(&dword, seen.command.is_read(), phase) {
@@ -181,16 +204,24 @@ impl Dword {
     }
 }
 
-/// The dword of the first data phase of the line, where a target claims it in memory or I/O.
-fn first_dword(ground: &Ground, line: u32, seen: &Seen) -> Option<Dword> {
-    let space = seen.command.space();
+/// The target that claims the line, in memory or I/O.
+fn target_of(ground: &Ground, line: u32, seen: &Seen) -> Option<u16> {
     match ground.claimant(line) {
-        Place::Target(target) if space != Space::Cfg => Some(Dword {
-            target,
-            is_io: space == Space::Io,
-            address: ground.first_address(line),
-        }),
+        Place::Target(target) if seen.command.space() != Space::Cfg => Some(target),
         _ => None,
+    }
+}
+
+/// The dword of the first data phase of a line that this target claims.
+fn first_dword(seen: &Seen, target: u16) -> Dword {
+    let address = match seen.address {
+        Addressed::Byte(address) => address,
+        Addressed::Type0 { .. } | Addressed::Type1 { .. } => 0,
+    };
+    Dword {
+        target,
+        is_io: seen.command.space() == Space::Io,
+        address,
     }
 }
 
