@@ -19,7 +19,7 @@ pub(crate) fn list_discards(
     notes: &mut Vec<Note>,
 ) -> Result<(), NoMemory> {
     for lane in lanes {
-        let is_crowded = is_crowded(ground, *lane, errands)?;
+        let is_crowded = has_left(ground, *lane, errands) && is_crowded(ground, *lane, errands)?;
         let Lane { bus, up } = *lane;
         let fars = ground.fars_of(*lane).iter().copied();
         let made = fars.filter(|far| errands.get(*far).ended().is_some());
@@ -47,6 +47,15 @@ fn is_discarded(errands: &Errands, far: u32, is_crowded: bool) -> bool {
         }
         None => false,
     }
+}
+
+/// Whether the lane made something that nobody took to the end.
+fn has_left(ground: &Ground, lane: Lane, errands: &Errands) -> bool {
+    ground
+        .fars_of(lane)
+        .iter()
+        .filter_map(|far| errands.get(*far).near())
+        .any(|near| errands.get(near).ended().is_none())
 }
 
 /// Whether at some latch more slots of the lane were held than there are.

@@ -258,17 +258,18 @@ impl<'a> Ground<'a> {
 
     /// The address of a data phase in memory.
     pub(crate) fn address_of(&self, phase: u32) -> u64 {
-        let before = 4 * u64::from(self.number_in_line(phase));
-        self.first_address(self.line_of(phase))
-            .saturating_add(before)
+        match self.seen(self.line_of(phase)) {
+            Some(seen) => {
+                let before = 4 * u64::from(phase.saturating_sub(seen.first));
+                address_of_line(seen).saturating_add(before)
+            }
+            None => 0,
+        }
     }
 
     /// The byte address of the line; 0 in configuration space.
     pub(crate) fn first_address(&self, line: u32) -> u64 {
-        match self.seen(line).map(|seen| seen.address) {
-            Some(Addressed::Byte(address)) => address,
-            _ => 0,
-        }
+        self.seen(line).map_or(0, |seen| address_of_line(seen))
     }
 
     /// The address of the next posted line that the lane drives behind this place of its far bus.
@@ -382,6 +383,14 @@ impl<'a> Ground<'a> {
     /// The bus on which the lane ends.
     pub(crate) fn end_of(&self, lane: Lane) -> u8 {
         end_of(self.board, lane)
+    }
+}
+
+/// The byte address of the line; 0 in configuration space.
+pub(crate) fn address_of_line(seen: &Seen) -> u64 {
+    match seen.address {
+        Addressed::Byte(address) => address,
+        Addressed::Type0 { .. } | Addressed::Type1 { .. } => 0,
     }
 }
 

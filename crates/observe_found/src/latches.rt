@@ -31,7 +31,7 @@ pub(crate) enum Strictness {
 
 impl Sides<'_> {
     /// Whether somebody can have been asking by this time for what the near errand asks for.
-    pub(crate) fn was_asked(&self, near: u32, time: u64) -> bool {
+    fn was_asked(&self, near: u32, time: u64) -> bool {
         let asked = self.asked.get(near as usize);
         asked.is_none_or(|asked| *asked <= time)
     }
@@ -89,8 +89,8 @@ impl Sides<'_> {
     }
 
     /// Makes the far errand for the only near one that there is, if all is as the machine has it:
-    /// then it is settled. A latch that it has is one from place 0 on; and where it came in time the
-    /// near one did not end before it.
+    /// then it is settled. What a trial asks beside this is so then: there is a latch from the first
+    /// place on, and the near one, if it ended, did not end before the far one did.
     pub(crate) fn pair_alone(
         &self,
         errands: &mut Errands,
@@ -287,37 +287,29 @@ impl Sides<'_> {
     fn suffices(&self, errands: &Errands, nears: &[u32], strictness: Strictness) -> bool {
         nears.iter().all(|near| {
             let near = errands.get(*near);
-            self.fits(errands, &near)
-                && (strictness == Strictness::NoOrderBack || !self.was_behind(errands, &near))
+            match (near.ended(), made_by(errands, &near)) {
+                (None, _) => true,
+                (Some(_), None) => false,
+                (Some(ended), Some(made)) => {
+                    self.same_outcome(made, ended)
+                        && (strictness == Strictness::NoOrderBack || !self.was_behind(made, ended))
+                }
+            }
         })
     }
 
-    fn fits(&self, errands: &Errands, near: &Errand) -> bool {
-        match (near.ended(), self.made(errands, near)) {
-            (None, _) => true,
-            (Some(_), None) => false,
-            (Some(ended), Some(made)) => self.same_outcome(made, ended),
+    /// Whether a read took the completion that this line made, when it ended, while a posted write
+    /// that came before that was there.
+    fn was_behind(&self, made: u32, ended: u32) -> bool {
+        let ground = self.ground;
+        if !ground
+            .seen(ended)
+            .is_some_and(|seen| seen.command.is_read())
+        {
+            return false;
         }
-    }
-
-    /// The line of the far bus that made the completion of the near errand.
-    fn made(&self, errands: &Errands, near: &Errand) -> Option<u32> {
-        errands.get(near.last_far()?).ended()
-    }
-
-    /// Whether it took a read's completion while a posted write that came before that was there.
-    fn was_behind(&self, errands: &Errands, near: &Errand) -> bool {
-        let reads = self
-            .ground
-            .seen(errands.first_line(near))
-            .is_some_and(|seen| seen.command.is_read());
-        match (near.ended(), self.made(errands, near)) {
-            (Some(ended), Some(made)) if reads => {
-                let brought = self.back.brought_before(self.ground.place(made));
-                self.back.left_before(self.ground.place(ended)) < brought
-            }
-            _ => false,
-        }
+        let brought = self.back.brought_before(ground.place(made));
+        self.back.left_before(ground.place(ended)) < brought
     }
 
     /// Whether the end of the near errand is that of the far one.
@@ -338,6 +330,11 @@ impl Sides<'_> {
             told => told,
         }
     }
+}
+
+/// The line of the far bus that made the completion of the near errand.
+fn made_by(errands: &Errands, near: &Errand) -> Option<u32> {
+    errands.get(near.last_far()?).ended()
 }
 
 /// A near errand cannot have ended before the completion that it took was there.

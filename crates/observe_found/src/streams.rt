@@ -19,17 +19,15 @@ pub(crate) struct Taker {
 }
 
 /// What is known of a data phase: of one that a lane drove that of the near bus that it is; of one
-/// that a lane took who took it away; whether the burst is cut before it; and which operation it is
-/// of.
+/// that a lane took who took it away; and whether the burst is cut before it.
 #[derive(Clone, Copy, Default)]
 pub(crate) struct Track {
     pub(crate) source: Option<u32>,
     pub(crate) taker: Option<Taker>,
     pub(crate) cut: bool,
-    pub(crate) op: Option<OpId>,
 }
 
-/// What is kept of a data phase: the same in fewer bytes.
+/// What is kept of a data phase: the same in fewer bytes, and which operation it is of.
 #[derive(Clone, Copy)]
 struct Kept {
     source: MaybePlace,
@@ -99,7 +97,6 @@ impl Kept {
             source: self.source.get(),
             taker: self.taker.get().map(|line| Taker { line, lost }),
             cut: self.is_cut,
-            op: self.op.get(),
         }
     }
 }
@@ -344,12 +341,12 @@ impl Streams {
     /// The operation that the data phase is of, where it is known: that of the one that a lane
     /// drove is the one that it took.
     pub(crate) fn op_of(&self, phase: u32) -> Option<OpId> {
-        let mut track = self.track(phase);
+        let mut kept = self.tracks.get(phase as usize)?;
         for _ in 0..MOST_LANES {
-            if track.op.is_some() {
-                return track.op;
+            if let Some(op) = kept.op.get() {
+                return Some(op);
             }
-            track = self.track(track.source?);
+            kept = self.tracks.get(kept.source.get()? as usize)?;
         }
         None
     }

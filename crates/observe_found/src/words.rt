@@ -2,9 +2,9 @@ ghost use Rattle.std.specs.Hash as fed;
 ghost use Rattle.std.specs.Cmp.Rules.{hashing};
 ghost use Rattle.std.proofs.Common.{rules};
 
-use crate::ground::{Ground, number};
+use crate::ground::{Ground, address_of_line, number};
 use board_model::{Opening, Place};
-use observe_told::{Addressed, Seen, Unfound, Who};
+use observe_told::{Seen, Unfound, Who};
 use pci_command::{NoMemory, Phase, Space};
 use std::alloc::Global;
 use std::collections::HashMap;
@@ -214,14 +214,10 @@ fn target_of(ground: &Ground, line: u32, seen: &Seen) -> Option<u16> {
 
 /// The dword of the first data phase of a line that this target claims.
 fn first_dword(seen: &Seen, target: u16) -> Dword {
-    let address = match seen.address {
-        Addressed::Byte(address) => address,
-        Addressed::Type0 { .. } | Addressed::Type1 { .. } => 0,
-    };
     Dword {
         target,
         is_io: seen.command.space() == Space::Io,
-        address,
+        address: address_of_line(seen),
     }
 }
 
