@@ -145,7 +145,7 @@ fn not_told(log: &Log, board: &Board, unfound: Unfound) -> Untold
 {
     match unfound {
         Unfound::NotHeld { line, .. } | Unfound::NotAsked { line, .. } => Untold::NotTold {
-            line: number_of(log, line),
+            line: log.word_of(line).line,
             refusal: LogRefusal::NoAct,
         },
         Unfound::TooManyOperations { line } => too_much(log, line, LogExcess::Operations),
@@ -165,23 +165,15 @@ fn not_told(log: &Log, board: &Board, unfound: Unfound) -> Untold
 
 fn too_much(log: &Log, place: u32, excess: LogExcess) -> Untold {
     Untold::TooMuch {
-        line: number_of(log, place),
+        line: log.word_of(place).line,
         excess,
     }
-}
-
-/// The number of the line at this place of the log.
-pub(crate) fn number_of(log: &Log, place: u32) -> u32 {
-    log.lines
-        .as_slice()
-        .get(place as usize)
-        .map_or(1, |seen| seen.line)
 }
 
 /// The number of the line of an act, by its number from 1 on.
 pub(crate) fn line_at(log: &Log, lines: &[u32], act: u32) -> u32 {
     let place = lines.get(act.saturating_sub(1) as usize).copied();
-    number_of(log, place.unwrap_or(0))
+    log.word_of(place.unwrap_or(0)).line
 }
 
 /// What was written is not what the log tells: so it is told at its last line.

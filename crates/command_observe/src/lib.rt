@@ -7,7 +7,6 @@
 mod answer;
 mod drafting;
 mod holding;
-mod notes;
 mod reading;
 mod retelling;
 mod telling;

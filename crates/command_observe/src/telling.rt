@@ -7,12 +7,12 @@ ghost use Rattle.observe_told.specs.Woven.{events_of, IsWhole};
 ghost use Rattle.trace_roundtrip.specs.Comments.{AreComments};
 ghost use Rattle.command_observe.specs.Judging.{IsRunOf, IsUntold};
 
-use crate::drafting::{Told, Untold, number_of, told_by, unheld};
-use crate::notes::comments;
+use crate::drafting::{Told, Untold, told_by, unheld};
 use crate::reading::TreeLog;
 use board_tree::Tree;
 use history_model::Event;
 use observe_log::is_told;
+use observe_order::comments;
 use observe_told::{Log, Unseen, Woven};
 use pci_command::NoMemory;
 use program_status::{LogRefusal, Status};
@@ -66,7 +66,7 @@ fn said_of_run(alloc: Global, log: &Log, told: &Told) -> Result<String, Untold>
     let ordered = &told.ordered;
     if let Some(refused) = ordered.refused() {
         return Err(Untold::NotTold {
-            line: number_of(log, refused.line),
+            line: log.word_of(refused.line).line,
             refusal: LogRefusal::Cause(refused.why),
         });
     }

@@ -76,7 +76,11 @@ impl<'a> Deeds<'a> {
 
 /// Of each line its operation, where it is of an errand that has one, and whether it latched that.
 fn done_by(ground: &Ground, errands: &Errands) -> Result<Vec<Done>, NoMemory> {
-    let mut done = vec![in ground.alloc; Done::NOTHING; ground.lines.len()]?;
+    let nothing = Done {
+        op: MaybeOp::NONE,
+        is_latch: false,
+    };
+    let mut done = vec![in ground.alloc; nothing; ground.lines.len()]?;
     for number in 0..errands.count() {
         let errand = errands.get(number);
         let op = errands.op_of(number).map_or(MaybeOp::NONE, MaybeOp::some);
@@ -91,14 +95,6 @@ fn done_by(ground: &Ground, errands: &Errands) -> Result<Vec<Done>, NoMemory> {
         }
     }
     Ok(done)
-}
-
-impl Done {
-    /// Of a line that is of no errand.
-    const NOTHING: Done = Done {
-        op: MaybeOp::NONE,
-        is_latch: false,
-    };
 }
 
 impl Deeds<'_> {

@@ -202,7 +202,7 @@ impl Held {
         let mut before = None;
         let (first, end) = ground.span(line);
         for phase in first..end {
-            before = self.leave_phase(ground, streams, streams.track(phase).source, before);
+            before = self.leave_phase(ground, streams, streams.track(phase).source.get(), before);
         }
         if let Some(lost) = streams.lost.get(&line).copied() {
             for phase in lost.first..lost.first.saturating_add(lost.count) {

@@ -1,4 +1,4 @@
-ghost use Rattle.std.specs.Prelude.{◌+◌, ◌*◌, ◌%◌, ◌^◌};
+ghost use Rattle.std.specs.Prelude.{◌+◌, ◌*◌, ◌^◌, ◌++◌};
 ghost use Rattle.std.specs.Hash as fed;
 ghost use Rattle.std.specs.Cmp.Rules.{hashing};
 ghost use Rattle.std.proofs.Common.{rules};
@@ -6,7 +6,6 @@ ghost use Rattle.std.proofs.Common.{rules};
 use crate::ground::{Ground, NO_TIME, Wanted, number};
 use observe_told::{Ending, MaybeOp, MaybePlace, Seen, Who, bump};
 use pci_command::{NoMemory, OpId};
-use std::alloc::Global;
 use std::collections::HashMap;
 use std::collections::hash_map::Entry;
 use std::hash::{Hash, Hasher};
@@ -62,21 +61,15 @@ enum Asker {
     Lane(u8, bool),
 }
 
-/// Few things that are asked at a time have one bus and the same low bits in address and word, so
-/// these are written alone, as one number, in place of one for each field.
+/// Few who ask on one bus ask for the same, so who asks is not written.
 impl Hash for Asked {
-    ghost hash_input = { λ a. fed.u64 (a.wanted.address % 2 ^ 32 + 2 ^ 32 * (a.wanted.value % 2 ^ 24) + 2 ^ 56 * a.bus) };
+    ghost hash_input = { λ a. fed.u64 a.wanted.address ++ fed.u64 (a.wanted.value + 2 ^ 32 * a.bus) };
 
     ghost respects_eq = { Prim.search (hashing, rules) };
 
     fn hash<H: Hasher>(&self, state: &mut H) {
-        let Wanted { address, value, .. } = self.wanted;
-        let (value, bus) = (u64::from(value), u64::from(self.bus));
-        state.write_u64(
-            address % 0x1_0000_0000
-                + 0x1_0000_0000 * (value % 0x100_0000)
-                + 0x100_0000_0000_0000 * bus,
-        );
+        state.write_u64(self.wanted.address);
+        state.write_u64(u64::from(self.wanted.value) + 0x1_0000_0000 * u64::from(self.bus));
     }
 }
 
@@ -145,17 +138,13 @@ impl Errand {
 }
 
 impl Errands {
-    fn new(alloc: Global) -> Errands {
-        Errands {
-            all: Vec::new(alloc),
-            lines: Vec::new(alloc),
-            of_lines: Vec::new(alloc),
-        }
-    }
-
     /// The errands of a log.
     pub(crate) fn of(ground: &Ground) -> Result<Errands, NoMemory> {
-        let mut errands = Errands::new(ground.alloc);
+        let mut errands = Errands {
+            all: Vec::new(ground.alloc),
+            lines: Vec::new(ground.alloc),
+            of_lines: Vec::new(ground.alloc),
+        };
         errands.of_lines.reserve(ground.lines.len())?;
         let mut open = HashMap::new(ground.alloc);
         errands.sort_lines(ground, &mut open)?;

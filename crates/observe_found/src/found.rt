@@ -46,7 +46,13 @@ pub fn find(
     let errands = Errands::of(&ground)?;
     ground.claim(tree, &errands)?;
     let lanes = ground.lanes()?;
-    let mut sought = Sought::new(alloc);
+    let mut sought = Sought {
+        bridges: Vec::new(alloc),
+        targets: Vec::new(alloc),
+        discards: Vec::new(alloc),
+        acts: LineActs::new(alloc),
+        notes: Vec::new(alloc),
+    };
     let drafts = sought.seek(&ground, lanes.as_slice(), errands)?;
     ground.forget_buses();
     let masters = all_masters(&ground, drafts)?;
@@ -54,16 +60,6 @@ pub fn find(
 }
 
 impl Sought {
-    fn new(alloc: Global) -> Sought {
-        Sought {
-            bridges: Vec::new(alloc),
-            targets: Vec::new(alloc),
-            discards: Vec::new(alloc),
-            acts: LineActs::new(alloc),
-            notes: Vec::new(alloc),
-        }
-    }
-
     /// All that is found, and the programs that are not written out yet. Acts are listed once the
     /// errands are let go, of which there are many.
     fn seek(

@@ -97,8 +97,7 @@ impl<'a> Ground<'a> {
             };
             self.claimants.push(claimant)?;
             match errand {
-                Some(errand) if first == line => self.list_begun(errand, claimant, seen)?,
-                Some(errand) => self.list_ended(errand, seen)?,
+                Some(errand) => self.list_errand(errand, first == line, claimant, seen)?,
                 None => self.list_posted(line, claimant, seen)?,
             }
         }
@@ -119,16 +118,17 @@ impl<'a> Ground<'a> {
         Ok(())
     }
 
-    /// The errand of its first line.
-    fn list_begun(&mut self, errand: u32, claimant: Place, seen: &Seen) -> Result<(), NoMemory> {
-        if let Place::Lane(lane) = claimant {
+    /// The errand of the line, where this begins or ends it.
+    fn list_errand(
+        &mut self,
+        errand: u32,
+        begins: bool,
+        claimant: Place,
+        seen: &Seen,
+    ) -> Result<(), NoMemory> {
+        if begins && let Place::Lane(lane) = claimant {
             self.nears.add(self.alloc, lane, errand)?;
         }
-        self.list_ended(errand, seen)
-    }
-
-    /// The errand of the line, where this ends it.
-    fn list_ended(&mut self, errand: u32, seen: &Seen) -> Result<(), NoMemory> {
         if seen.ending != Ending::Retry
             && let Who::Lane(lane) = seen.who
         {

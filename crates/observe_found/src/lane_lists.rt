@@ -18,19 +18,11 @@ impl LaneLists {
     /// One more of the lane.
     pub(crate) fn add(&mut self, alloc: Global, lane: Lane, number: u32) -> Result<(), NoMemory> {
         let place = place_of(lane);
-        if self.of_lanes.len() <= place {
-            self.grow(alloc, place)?;
+        while self.of_lanes.len() <= place {
+            self.of_lanes.push(Vec::new(alloc))?;
         }
         if let Some(numbers) = self.of_lanes.get_mut(place) {
             numbers.push(number)?;
-        }
-        Ok(())
-    }
-
-    /// Lists up to this one.
-    fn grow(&mut self, alloc: Global, place: usize) -> Result<(), NoMemory> {
-        for _lane in self.of_lanes.len()..=place {
-            self.of_lanes.push(Vec::new(alloc))?;
         }
         Ok(())
     }

@@ -8,7 +8,6 @@ use crate::trial::{Lists, Trial};
 use board_model::{Lane, bridge_to};
 use observe_told::Unfound;
 use pci_command::NoMemory;
-use std::alloc::Global;
 
 /// How often the pairing is tried at most, each time with other orders of trying: of many errands
 /// less often, so that it is not done for more than so many in all.
@@ -43,23 +42,14 @@ struct Part {
     nears: Vec<u32>,
 }
 
-/// Where a part stands among the entries of its lane, and how many near errands it has: in the
-/// order in which parts are paired, those with few choices first.
-#[derive(Clone, Copy, Default, PartialEq, Eq, PartialOrd, Ord)]
+/// Where a part stands among the entries of its lane, and how many near and far errands it has.
+#[derive(Clone, Copy, Default)]
 struct Span {
     nears: u32,
     first: usize,
     end: usize,
     fars: u32,
     reach: u64,
-}
-
-/// The parts of a lane: those that have at most one near errand, which mostly stand in order, and
-/// those with more.
-#[derive(Drop)]
-struct Spans {
-    few: Vec<Span>,
-    more: Vec<Span>,
 }
 
 /// What all lanes are paired by.
@@ -119,17 +109,8 @@ fn keyed_of(ground: &Ground, lane: Lane, errands: &Errands) -> Result<Vec<Keyed>
     for far in ground.fars_of(lane) {
         keyed.push(keyed_by(ground, errands, *far, true))?;
     }
-    sort_keyed(keyed.as_mut_slice());
+    keyed.sort_unstable();
     Ok(keyed)
-}
-
-/// Sorts entries, first by their addresses alone, since two numbers are sooner compared than two
-/// entries.
-fn sort_keyed(keyed: &mut [Keyed]) {
-    keyed.sort_unstable_by_key(|keyed| keyed.wanted.address);
-    for same in keyed.chunk_by_mut(|one, other| one.wanted.address == other.wanted.address) {
-        same.sort_unstable();
-    }
 }
 
 fn keyed_by(ground: &Ground, errands: &Errands, errand: u32, is_far: bool) -> Keyed {
@@ -283,37 +264,6 @@ impl Span {
     }
 }
 
-impl Spans {
-    fn new(alloc: Global) -> Spans {
-        Spans {
-            few: Vec::new(alloc),
-            more: Vec::new(alloc),
-        }
-    }
-
-    /// One more, if it has far errands.
-    fn add(&mut self, span: Span) -> Result<(), NoMemory> {
-        if span.fars == 0 {
-            return Ok(());
-        }
-        if span.nears <= 1 {
-            self.few.push(span)?;
-        } else {
-            self.more.push(span)?;
-        }
-        Ok(())
-    }
-
-    /// All of them in order.
-    fn sorted(self) -> Result<Vec<Span>, NoMemory> {
-        let Spans { mut few, mut more } = self;
-        few.sort_unstable();
-        more.sort_unstable();
-        few.append(&mut more)?;
-        Ok(few)
-    }
-}
-
 impl Lanes<'_> {
     /// Pairs all lanes with other orders of trying until each part has a choice that suffices; where
     /// none of them does, once more so that it shows what is wrong.
@@ -399,9 +349,10 @@ impl Lanes<'_> {
         })
     }
 
-    /// The parts of a lane that have far errands. Of these only such count as have an effect.
+    /// The parts of a lane that have far errands, those with few choices first. Of far errands only
+    /// such count as have an effect.
     fn spans(&self, own: &[Entry], errands: &Errands) -> Result<Vec<Span>, NoMemory> {
-        let mut spans = Spans::new(self.ground.alloc);
+        let mut spans = Vec::new(self.ground.alloc);
         let mut span = Span::default();
         for (place, entry) in own.iter().enumerate() {
             let errand = errands.get(entry.errand);
@@ -413,7 +364,7 @@ impl Lanes<'_> {
                 .get(span.first)
                 .is_some_and(|before| span.goes_on(before, entry, start));
             if !goes_on {
-                spans.add(span)?;
+                list_span(&mut spans, span)?;
                 span = Span {
                     first: place,
                     ..Span::default()
@@ -422,8 +373,9 @@ impl Lanes<'_> {
             let until = errands.open_until(self.ground, &errand);
             span = span.with(place, entry.is_far, until);
         }
-        spans.add(span)?;
-        spans.sorted()
+        list_span(&mut spans, span)?;
+        spans.sort_by_key(|span| span.nears)?;
+        Ok(spans)
     }
 
     fn try_part(
@@ -445,7 +397,7 @@ impl Lanes<'_> {
             return Ok(false);
         }
         if let Some(line) = unasked {
-            let bridge = trial.bridge();
+            let bridge = trial.sides.stream.lane.bus;
             return Err(Unfound::NotAsked { line, bridge });
         }
         if !trial.run(errands, held, Strictness::NoOrderBack, false)? {
@@ -455,15 +407,11 @@ impl Lanes<'_> {
     }
 }
 
-/// Of a part of one far and one near errand these, and which of them is the first.
+/// The far errand and the near one of a part of two, and the first of them.
 fn only_two(own: &[Entry], span: &Span) -> Option<(u32, u32, u32)> {
     match own.get(span.first..span.end)? {
-        [first, second] if second.is_far && !first.is_far => {
-            Some((second.errand, first.errand, first.errand))
-        }
-        [first, second] if first.is_far && !second.is_far => {
-            Some((first.errand, second.errand, first.errand))
-        }
+        [near, far] if far.is_far && !near.is_far => Some((far.errand, near.errand, near.errand)),
+        [far, near] if far.is_far && !near.is_far => Some((far.errand, near.errand, far.errand)),
         _ => None,
     }
 }
@@ -480,6 +428,13 @@ fn suffices(
         Err(Unfound::TooManyPairings { .. }) if may_fail => Ok(false),
         found => found,
     }
+}
+
+fn list_span(spans: &mut Vec<Span>, span: Span) -> Result<(), NoMemory> {
+    if span.fars > 0 {
+        spans.push(span)?;
+    }
+    Ok(())
 }
 
 /// Far errands in the order in which they were shown.

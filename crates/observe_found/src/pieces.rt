@@ -20,7 +20,7 @@ pub(crate) fn pieces(
     let (first, end) = ground.span(line);
     let mut begin = first;
     for phase in first..end {
-        let is_cut = streams.track(phase).cut
+        let is_cut = streams.track(phase).is_cut
             || ground.address_of(phase) % 64 == 0
             || begin.saturating_add(8) <= phase;
         if is_cut && begin < phase {

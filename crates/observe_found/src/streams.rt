@@ -11,30 +11,16 @@ const MOST_HELD: usize = 1024;
 /// How many lanes a way has at most.
 const MOST_LANES: u32 = 64;
 
-/// Which line of the far bus took a data phase away, and whether it was lost there.
-#[derive(Clone, Copy, PartialEq, Eq)]
-pub(crate) struct Taker {
-    pub(crate) line: u32,
-    pub(crate) lost: bool,
-}
-
-/// What is known of a data phase: of one that a lane drove that of the near bus that it is; of one
-/// that a lane took who took it away; and whether the burst is cut before it.
-#[derive(Clone, Copy, Default)]
-pub(crate) struct Track {
-    pub(crate) source: Option<u32>,
-    pub(crate) taker: Option<Taker>,
-    pub(crate) cut: bool,
-}
-
-/// What is kept of a data phase: the same in fewer bytes, and which operation it is of.
+/// What is known of a data phase, of which there are many: of one that a lane drove that of the near
+/// bus that it is; of one that a lane took which line of the far bus took it away, and whether it
+/// was lost there; whether the burst is cut before it, and which operation it is of.
 #[derive(Clone, Copy)]
-struct Kept {
-    source: MaybePlace,
+pub(crate) struct Track {
+    pub(crate) source: MaybePlace,
     taker: MaybePlace,
     op: MaybeOp,
     is_lost: bool,
-    is_cut: bool,
+    pub(crate) is_cut: bool,
 }
 
 /// Data phases of one near line, one behind the other, that an abort of a far line took away.
@@ -67,7 +53,7 @@ pub(crate) struct Stream {
 #[derive(Drop)]
 pub(crate) struct Streams {
     of_lanes: Vec<Stream>,
-    tracks: Vec<Kept>,
+    tracks: Vec<Track>,
     pub(crate) lost: BTreeMap<u32, Lost>,
 }
 
@@ -81,24 +67,15 @@ struct Flow {
     gone: u32,
 }
 
-impl Kept {
+impl Track {
     /// Nothing is known of it.
-    const NEW: Kept = Kept {
+    const NEW: Track = Track {
         source: MaybePlace::NONE,
         taker: MaybePlace::NONE,
         op: MaybeOp::NONE,
         is_lost: false,
         is_cut: false,
     };
-
-    fn track(&self) -> Track {
-        let lost = self.is_lost;
-        Track {
-            source: self.source.get(),
-            taker: self.taker.get().map(|line| Taker { line, lost }),
-            cut: self.is_cut,
-        }
-    }
 }
 
 impl BusPlaces {
@@ -173,7 +150,7 @@ impl Streams {
 
     /// The streams of these lanes, far ends first, and the cuts that they made.
     pub(crate) fn follow_all(&mut self, ground: &Ground, lanes: &[Lane]) -> Result<(), Unfound> {
-        self.tracks.resize(ground.phases.len(), Kept::NEW)?;
+        self.tracks.resize(ground.phases.len(), Track::NEW)?;
         for lane in lanes {
             self.follow(ground, *lane)?;
         }
@@ -233,13 +210,13 @@ impl Streams {
         if let Some(track) = self.tracks.get_mut(phase as usize) {
             track.source = MaybePlace::some(source);
         }
-        self.take(source, Taker { line, lost: false });
+        self.take(source, line, false);
     }
 
-    fn take(&mut self, source: u32, taker: Taker) {
+    fn take(&mut self, source: u32, line: u32, is_lost: bool) {
         if let Some(track) = self.tracks.get_mut(source as usize) {
-            track.taker = MaybePlace::some(taker.line);
-            track.is_lost = taker.lost;
+            track.taker = MaybePlace::some(line);
+            track.is_lost = is_lost;
         }
     }
 
@@ -256,7 +233,7 @@ impl Streams {
         let moved = end.saturating_sub(first);
         let before = 4 * u64::from(moved);
         let address = ground.first_address(line).saturating_add(before);
-        match flow.oldest_at(ground, address) {
+        match flow.oldest_where(ground, address, None) {
             Some(at) => {
                 let next = flow.next_start(ground, place);
                 let lost = self.lose_from(ground, flow, at, line, next);
@@ -285,17 +262,15 @@ impl Streams {
                 break;
             }
             flow.remove(at);
-            self.take(phase, Taker { line, lost: true });
+            self.take(phase, line, true);
             lost.count = lost.count.saturating_add(1);
         }
         lost
     }
 
     pub(crate) fn track(&self, phase: u32) -> Track {
-        match self.tracks.get(phase as usize) {
-            Some(kept) => kept.track(),
-            None => Track::default(),
-        }
+        let track = self.tracks.get(phase as usize);
+        track.copied().unwrap_or(Track::NEW)
     }
 
     /// The cuts that the far bus of the lane made, or that were made beyond it.
@@ -312,23 +287,23 @@ impl Streams {
         let (first, end) = ground.span(line);
         for phase in first..end {
             let track = self.track(phase);
-            if let Some(source) = track.source {
-                if track.cut {
-                    self.mark_cut(source);
-                }
+            if let Some(source) = track.source.get()
+                && track.is_cut
+            {
+                self.mark_cut(source);
             }
         }
     }
 
     fn cut_between_takers(&mut self, ground: &Ground, line: u32) {
         let (first, end) = ground.span(line);
-        let mut before = self.track(first).taker;
+        let mut before = self.track(first);
         for phase in first..end {
-            let taker = self.track(phase).taker;
-            if taker != before {
+            let track = self.track(phase);
+            if (track.taker, track.is_lost) != (before.taker, before.is_lost) {
                 self.mark_cut(phase);
             }
-            before = taker;
+            before = track;
         }
     }
 
@@ -420,10 +395,6 @@ impl Flow {
         None
     }
 
-    fn oldest_at(&self, ground: &Ground, address: u64) -> Option<usize> {
-        self.oldest_where(ground, address, None)
-    }
-
     /// Where the next posted line of the lane goes on behind this place of its far bus.
     fn next_start(&self, ground: &Ground, place: u32) -> Option<u64> {
         let next = ground.next_posted(self.stream.lane, place)?;
@@ -473,12 +444,7 @@ impl Flow {
     }
 
     fn ended(self) -> Stream {
-        let Flow {
-            stream,
-            waiting: _waiting,
-            near: _near,
-            gone: _gone,
-        } = self;
+        let Flow { stream, .. } = self;
         stream
     }
 }

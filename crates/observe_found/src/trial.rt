@@ -57,7 +57,7 @@ struct Level {
 /// The errands of one request that are open together, and the trying of who was made for whom.
 #[derive(Drop)]
 pub(crate) struct Trial<'a> {
-    sides: Sides<'a>,
+    pub(crate) sides: Sides<'a>,
     trying: Trying,
     /// The far ones, in the order in which they were shown.
     fars: &'a [u32],
@@ -180,11 +180,6 @@ impl<'a> Trial<'a> {
 
     fn open_until(&self, errands: &Errands, near: u32) -> u64 {
         errands.open_until(self.sides.ground, &errands.get(near))
-    }
-
-    /// The bridge of the lane.
-    pub(crate) fn bridge(&self) -> u8 {
-        self.sides.stream.lane.bus
     }
 
     /// The first far errand for which nobody was asking.

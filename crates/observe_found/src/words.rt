@@ -1,35 +1,19 @@
-ghost use Rattle.std.specs.Hash as fed;
-ghost use Rattle.std.specs.Cmp.Rules.{hashing};
-ghost use Rattle.std.proofs.Common.{rules};
-
 use crate::ground::{Ground, address_of_line, number};
 use board_model::{Opening, Place};
 use observe_told::{Seen, Unfound, Who};
 use pci_command::{NoMemory, Phase, Space};
 use std::alloc::Global;
 use std::collections::HashMap;
-use std::hash::{Hash, Hasher};
 
 /// How many opening words a target has at most.
 const MOST_OPENINGS: usize = 256;
 
 /// A dword of a target, in memory or I/O.
-#[derive(Clone, Copy, PartialEq, Eq, PartialOrd, Ord)]
+#[derive(Clone, Copy, PartialEq, Eq, PartialOrd, Ord, Hash)]
 struct Dword {
     target: u16,
     is_io: bool,
     address: u64,
-}
-
-/// No two targets have the same addresses, so these are written alone.
-impl Hash for Dword {
-    ghost hash_input = { λ dword. fed.u64 dword.address };
-
-    ghost respects_eq = { Prim.search (hashing, rules) };
-
-    fn hash<H: Hasher>(&self, state: &mut H) {
-        state.write_u64(self.address);
-    }
 }
 
 /// Which bytes of a dword are known, since they were read or written, and what it opened as.

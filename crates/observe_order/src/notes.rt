@@ -5,7 +5,7 @@ use std::alloc::{AllocError, Global};
 use trace_text::{LaneWord, master_name, print_operation};
 
 /// What was done and cannot be seen in the trace: lines of comments.
-pub(crate) fn comments(
+pub fn comments(
     alloc: Global,
     log: &Log,
     board: &Board,
