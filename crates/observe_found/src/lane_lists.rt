@@ -18,7 +18,7 @@ impl LaneLists {
     /// One more of the lane.
     pub(crate) fn add(&mut self, alloc: Global, lane: Lane, number: u32) -> Result<(), NoMemory> {
         let place = place_of(lane);
-        while self.of_lanes.len() <= place {
+        for _lane in self.of_lanes.len()..=place {
             self.of_lanes.push(Vec::new(alloc))?;
         }
         if let Some(numbers) = self.of_lanes.get_mut(place) {
