@@ -42,6 +42,8 @@ LOGS = module_of(os.path.join(os.path.dirname(BENCH), "tools", "run_logs.py"))
 # Rounds of seven_buses and seeds of run_logs.py that make logs of some 100,000 lines, of which nearly none, a third and three
 # fifths are Retries without effect.
 OF_LOGS = [(686, 2), (457, 5), (275, 8)]
+# And how often each of them is read for each of the runs.
+OF_CLOCKS = 5
 
 
 def chain(bridges, rounds):
@@ -114,6 +116,19 @@ class Measured:
         wanted = FINDS.get(words[1].split()[0] if len(words) > 1 else "", (0,))
         each = [self.used(words, limit or self.limit, self.out, wanted) for _ in range(self.runs)]
         return None if None in each else min(it.ru_utime + it.ru_stime for it in each)
+
+    def clocks(self, *calls):
+        """The least time by the clock of each of these commands, that take turns: of a run of some ten ms the system counts ticks."""
+        least = [math.inf] * len(calls)
+        for _ in range(OF_CLOCKS * self.runs):
+            for place, words in enumerate(calls):
+                with open(self.out, "wb") as file:
+                    begun = time.perf_counter()
+                    child = os.posix_spawn(words[0], words, os.environ, file_actions=[(os.POSIX_SPAWN_DUP2, file.fileno(), 1)])
+                    _, status = os.waitpid(child, 0)
+                    took = time.perf_counter() - begun
+                least[place] = min(least[place], took) if status == 0 else math.nan
+        return least
 
     def mib(self, words):
         """The most memory of one run, as it is told while it runs: what is told at its end counts what this script had, too."""
@@ -238,18 +253,18 @@ def memory(measured):
 
 
 def observe(measured):
-    """`observe` of logs of some 100,000 lines, beside `check` of what it writes: seconds and, of memory, bytes a line."""
+    """`observe` of logs of some 100,000 lines, beside `check` of what it writes: seconds by the clock and, of memory, bytes a line."""
     print(f"{'observe':<16} {'fruitless':>9} {'seconds':>8} {'check':>8} {'ratio':>6} {'bytes':>6}   a line")
     for rounds, seed in OF_LOGS:
         trace, _ = measured.trace_of(measured.path("board", MAKE.seven_buses(rounds)), "trace")
         with open(trace, encoding="ascii") as file:
             text = LOGS.log_of(file.read(), random.Random(seed))
         log, lines = measured.path("log", text), text.partition("\nlog\n")[2].count("\n") - 1
-        took, most = measured.seconds(measured.words("observe", log)), measured.mib([measured.program, "observe", log])
+        most = measured.mib([measured.program, "observe", log])
         with open(measured.out, encoding="ascii") as file:
             fruitless = re.search(r"(\d+) Retries without effect", file.read()).group(1)
         os.replace(measured.out, measured.path("written"))
-        checked = measured.seconds(measured.words("check", measured.path("written")))
+        took, checked = measured.clocks(measured.words("observe", log), measured.words("check", measured.path("written")))
         print(f"{lines:>16} {fruitless:>9} {took:8.3f} {checked:8.3f} {took / checked:6.2f} {most * (1 << 20) / lines:6.0f}", flush=True)
 
 
