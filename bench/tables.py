@@ -118,7 +118,7 @@ class Measured:
         return None if None in each else min(it.ru_utime + it.ru_stime for it in each)
 
     def clocks(self, *calls):
-        """The least time by the clock of each of these commands, that take turns: of a run of some ten ms the system counts ticks."""
+        """The least time by the clock of each of these commands, that take turns: a machine may change its speed within a minute."""
         least = [math.inf] * len(calls)
         for _ in range(OF_CLOCKS * self.runs):
             for place, words in enumerate(calls):
