@@ -13,4 +13,5 @@ mod telling;
 mod writing;
 
 pub use answer::{answer_acts, answer_observe, answer_observe_owned};
+pub use observe_log::faulty_word;
 pub use retelling::{Retelling, retell};

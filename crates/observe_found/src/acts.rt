@@ -1,7 +1,8 @@
 use crate::errands::Errands;
-use crate::ground::{Ground, number};
+use crate::ground::{Ends, Ground, number};
 use crate::latches::outcome;
 use crate::pairing::pair;
+use crate::parts::Parts;
 use crate::programs::Programs;
 use crate::streams::Streams;
 use board_model::{Lane, Place};
@@ -30,16 +31,19 @@ impl<'a> Told<'a> {
     }
 
     /// All that the lines tell.
-    pub(crate) fn follow(&mut self, lanes: &[Lane]) -> Result<(), Unfound> {
+    pub(crate) fn follow(&mut self, lanes: &[Lane], ends: Ends) -> Result<(), Unfound> {
         let ground = self.ground;
+        let parts = Parts::of(ground, lanes, &ends, &self.errands)?;
+        drop(ends);
         self.streams.follow_all(ground, lanes)?;
-        pair(ground, lanes, &self.streams, &mut self.errands)?;
+        pair(ground, lanes, &self.streams, &parts, &mut self.errands)?;
+        drop(parts);
         self.programs
             .write_all(ground, &mut self.streams, &mut self.errands)
     }
 }
 
-/// What is known of a line of an errand: its operation, and whether it latched that.
+/// What is known of a line that ended an errand, or latched one: its operation, and which of both.
 #[derive(Clone, Copy)]
 struct Done {
     op: MaybeOp,
@@ -74,7 +78,7 @@ impl<'a> Deeds<'a> {
     }
 }
 
-/// Of each line its operation, where it is of an errand that has one, and whether it latched that.
+/// Of each line that ended or latched an errand its operation, if it has one.
 fn done_by(ground: &Ground, errands: &Errands) -> Result<Vec<Done>, NoMemory> {
     let nothing = Done {
         op: MaybeOp::NONE,
@@ -84,35 +88,36 @@ fn done_by(ground: &Ground, errands: &Errands) -> Result<Vec<Done>, NoMemory> {
     for number in 0..errands.count() {
         let errand = errands.get(number);
         let op = errands.op_of(number).map_or(MaybeOp::NONE, MaybeOp::some);
-        for line in errands.lines_of(&errand) {
-            if let Some(done) = done.get_mut(*line as usize) {
-                done.op = op;
-            }
+        if let Some(line) = errand.ended()
+            && let Some(done) = done.get_mut(line as usize)
+        {
+            done.op = op;
         }
-        let latch = errand.latch();
-        if let Some(done) = latch.and_then(|line| done.get_mut(line as usize)) {
-            done.is_latch = true;
+        if let Some(line) = errand.latch()
+            && let Some(done) = done.get_mut(line as usize)
+        {
+            *done = Done { op, is_latch: true };
         }
     }
     Ok(done)
 }
 
 impl Deeds<'_> {
-    /// Lists the acts of all lines, bus by bus, and there in the order of the lines.
-    pub(crate) fn list_acts(&self, acts: &mut LineActs) -> Result<(), NoMemory> {
-        acts.reserve(self.ground.lines.len())?;
-        for bus in 0..=255u8 {
-            for line in self.ground.on_bus(bus) {
-                self.act(*line, acts)?;
+    /// The acts of all lines, of each bus in the order of its lines, and how many Retries have none.
+    pub(crate) fn acts(&self) -> Result<(LineActs, u32), NoMemory> {
+        let mut acts = LineActs::with_room(self.ground.alloc, self.ground.lines.len())?;
+        let mut fruitless = 0u32;
+        for (line, seen) in self.ground.lines.iter().enumerate() {
+            let before = acts.count();
+            self.act(number(line), seen, &mut acts)?;
+            if seen.ending == Ending::Retry && acts.count() == before {
+                fruitless = fruitless.saturating_add(1);
             }
         }
-        Ok(())
+        Ok((acts, fruitless))
     }
 
-    fn act(&self, line: u32, acts: &mut LineActs) -> Result<(), NoMemory> {
-        let Some(seen) = self.ground.seen(line) else {
-            return Ok(());
-        };
+    fn act(&self, line: u32, seen: &Seen, acts: &mut LineActs) -> Result<(), NoMemory> {
         if seen.is_posted() {
             return self.posted(line, seen, acts);
         }
@@ -128,16 +133,18 @@ impl Deeds<'_> {
 
     fn push(&self, line: u32, act: (OpId, Step), acts: &mut LineActs) -> Result<(), NoMemory> {
         let (op, step) = act;
+        let bus = self.ground.seen(line).map_or(0, |seen| seen.bus);
         let place = match step {
             Step::MasterAbort => Place::Nobody,
             _ => self.ground.claimant(line),
         };
-        acts.push(SeenAct {
+        let act = SeenAct {
             line,
             op,
             step,
             place,
-        })
+        };
+        acts.push(bus, act)
     }
 
     /// How a delayed request ended.

@@ -1,4 +1,4 @@
-use crate::ground::Wanted;
+use crate::errands::Wanted;
 use crate::trial::Trying;
 use pci_command::NoMemory;
 use std::alloc::Global;

@@ -19,16 +19,27 @@ pub(crate) fn list_discards(
     notes: &mut Vec<Note>,
 ) -> Result<(), NoMemory> {
     for lane in lanes {
-        let is_crowded = has_left(ground, *lane, errands) && is_crowded(ground, *lane, errands)?;
         let Lane { bus, up } = *lane;
-        let fars = ground.fars_of(*lane).iter().copied();
-        let made = fars.filter(|far| errands.get(*far).ended().is_some());
-        for (before, far) in made.enumerate() {
-            if is_discarded(errands, far, is_crowded) {
-                let count = number(before).saturating_add(1);
+        let mut crowded = None;
+        let mut count = 0u32;
+        for far in ground.fars_of(*lane) {
+            let made = errands.get(*far);
+            let Some(line) = made.ended() else {
+                continue;
+            };
+            count = count.saturating_add(1);
+            let Some(near) = made.near().map(|near| errands.get(near)) else {
+                continue;
+            };
+            let is_last = near.last_far() == Some(*far);
+            if is_last && near.ended().is_none() && crowded.is_none() {
+                crowded = Some(is_crowded(ground, *lane, errands)?);
+            }
+            let is_left = near.ended().is_none() && crowded == Some(true);
+            if !is_last || is_left {
                 let up = !up;
                 discards.push(Planned { bus, up, count })?;
-                if let (Some(op), Some(line)) = (errands.op_of(far), errands.get(far).ended()) {
+                if let Some(op) = errands.op_of(*far) {
                     let bridge = bus;
                     notes.push(Note::Discarded { bridge, op, line })?;
                 }
@@ -36,26 +47,6 @@ pub(crate) fn list_discards(
         }
     }
     Ok(())
-}
-
-/// Whether the completion that the far errand made is discarded.
-fn is_discarded(errands: &Errands, far: u32, is_crowded: bool) -> bool {
-    match errands.get(far).near() {
-        Some(near) => {
-            let near = errands.get(near);
-            near.last_far() != Some(far) || is_crowded && near.ended().is_none()
-        }
-        None => false,
-    }
-}
-
-/// Whether the lane made something that nobody took to the end.
-fn has_left(ground: &Ground, lane: Lane, errands: &Errands) -> bool {
-    ground
-        .fars_of(lane)
-        .iter()
-        .filter_map(|far| errands.get(*far).near())
-        .any(|near| errands.get(near).ended().is_none())
 }
 
 /// Whether at some latch more slots of the lane were held than there are.

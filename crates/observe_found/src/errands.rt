@@ -1,9 +1,9 @@
-ghost use Rattle.std.specs.Prelude.{◌+◌, ◌*◌, ◌^◌, ◌++◌};
+ghost use Rattle.std.specs.Prelude.{◌+◌, ◌*◌, ◌%◌, ◌^◌};
 ghost use Rattle.std.specs.Hash as fed;
 ghost use Rattle.std.specs.Cmp.Rules.{hashing};
 ghost use Rattle.std.proofs.Common.{rules};
 
-use crate::ground::{Ground, NO_TIME, Wanted, number};
+use crate::ground::{Ground, NO_TIME, number};
 use observe_told::{Ending, MaybeOp, MaybePlace, Seen, Who, bump};
 use pci_command::{NoMemory, OpId};
 use std::collections::HashMap;
@@ -25,6 +25,7 @@ pub(crate) struct Errand {
 /// What is kept of an errand, of which there are many. Its lines end where those of the next begin.
 #[derive(Clone, Copy)]
 struct Kept {
+    start: u64,
     deadline: u64,
     release: u64,
     /// Its first line among those of all errands. While lines are sorted, how many it has.
@@ -46,36 +47,54 @@ pub(crate) struct Errands {
     of_lines: Vec<MaybePlace>,
 }
 
-/// By what a line is known as one of an errand.
-#[derive(Clone, Copy, PartialEq, Eq)]
-struct Asked {
-    wanted: Wanted,
-    bus: u8,
-    asker: Asker,
+/// A request as two errands of one request have it: its plain command, its address (in
+/// configuration space of type 1) and of a write its word.
+#[derive(Clone, Copy, Default, PartialEq, Eq)]
+pub(crate) struct Wanted {
+    pub(crate) address: u64,
+    pub(crate) value: u32,
+    pub(crate) code: u8,
+    pub(crate) enables: u8,
 }
 
-/// Who asks: a master, or the lane to this bus.
-#[derive(Clone, Copy, PartialEq, Eq)]
-enum Asker {
-    Master(u16),
-    Lane(u8, bool),
-}
-
-/// Few who ask on one bus ask for the same, so who asks is not written.
-impl Hash for Asked {
-    ghost hash_input = { λ a. fed.u64 a.wanted.address ++ fed.u64 (a.wanted.value + 2 ^ 32 * a.bus) };
+/// Few requests are equal in address and word alone, and what writes a word has a short address.
+impl Hash for Wanted {
+    ghost hash_input = { λ a. fed.u64 ((a.address + 2 ^ 32 * a.value) % 2 ^ 64) };
 
     ghost respects_eq = { Prim.search (hashing, rules) };
 
     fn hash<H: Hasher>(&self, state: &mut H) {
-        state.write_u64(self.wanted.address);
-        state.write_u64(u64::from(self.wanted.value) + 0x1_0000_0000 * u64::from(self.bus));
+        let word = 0x1_0000_0000 * u64::from(self.value);
+        state.write_u64(self.address.wrapping_add(word));
+    }
+}
+
+/// By what a line is known as one of an errand: what is asked for, where, and by whom.
+#[derive(Clone, Copy, PartialEq, Eq)]
+struct Asked {
+    wanted: Wanted,
+    bus: u8,
+    who: Who,
+}
+
+/// Few who ask on one bus ask for the same, so who asks is not written.
+impl Hash for Asked {
+    ghost hash_input = { λ a.
+        fed.u64 ((a.wanted.address + 2 ^ 32 * a.wanted.value + 2 ^ 32 * a.bus) % 2 ^ 64) };
+
+    ghost respects_eq = { Prim.search (hashing, rules) };
+
+    fn hash<H: Hasher>(&self, state: &mut H) {
+        let Wanted { address, value, .. } = self.wanted;
+        let asked = address.wrapping_add(0x1_0000_0000 * u64::from(value));
+        state.write_u64(asked.wrapping_add(0x1_0000_0000 * u64::from(self.bus)));
     }
 }
 
 impl Kept {
     /// No line yet.
     const NEW: Kept = Kept {
+        start: 0,
         deadline: NO_TIME,
         release: 0,
         first: 0,
@@ -96,9 +115,19 @@ impl Errand {
         end: 0,
     };
 
+    /// When it began.
+    pub(crate) fn start(&self) -> u64 {
+        self.kept.start
+    }
+
     /// The line that ended it.
     pub(crate) fn ended(&self) -> Option<u32> {
         self.kept.ended.get()
+    }
+
+    /// How long it was open: one that did not end is open for ever.
+    pub(crate) fn open_until(&self, ground: &Ground) -> u64 {
+        self.ended().map_or(NO_TIME, |line| ground.end(line))
     }
 
     /// The line at which it first had an effect: its first latch, or its end.
@@ -187,7 +216,7 @@ impl Errands {
                 errand
             }
             Entry::Vacant(entry) => {
-                let errand = self.begin()?;
+                let errand = self.begin(seen.start)?;
                 if !ends {
                     entry.insert(errand);
                 }
@@ -198,9 +227,9 @@ impl Errands {
         Ok(MaybePlace::some(errand))
     }
 
-    fn begin(&mut self) -> Result<u32, NoMemory> {
+    fn begin(&mut self, start: u64) -> Result<u32, NoMemory> {
         let errand = number(self.all.len());
-        self.all.push(Kept::NEW)?;
+        self.all.push(Kept { start, ..Kept::NEW })?;
         Ok(errand)
     }
 
@@ -284,23 +313,6 @@ impl Errands {
     pub(crate) fn first_line(&self, errand: &Errand) -> u32 {
         let first = self.lines.get(errand.kept.first as usize);
         first.copied().unwrap_or(0)
-    }
-
-    /// The first line of the errand of this number.
-    pub(crate) fn first_of(&self, errand: u32) -> u32 {
-        let kept = self.all.get(errand as usize);
-        let first = kept.and_then(|kept| self.lines.get(kept.first as usize));
-        first.copied().unwrap_or(0)
-    }
-
-    /// When it began.
-    pub(crate) fn start(&self, ground: &Ground, errand: &Errand) -> u64 {
-        ground.start(self.first_line(errand))
-    }
-
-    /// How long it was open: one that did not end is open for ever.
-    pub(crate) fn open_until(&self, ground: &Ground, errand: &Errand) -> u64 {
-        errand.ended().map_or(NO_TIME, |line| ground.end(line))
     }
 
     /// Whose operation it is: that of a far errand is that of the near one.
@@ -391,13 +403,9 @@ impl Errands {
 }
 
 fn key_of(ground: &Ground, seen: &Seen) -> Asked {
-    let asker = match seen.who {
-        Who::Master(master) => Asker::Master(master),
-        Who::Lane(lane) => Asker::Lane(lane.bus, lane.up),
-    };
     Asked {
         wanted: ground.driven(seen),
         bus: seen.bus,
-        asker,
+        who: seen.who,
     }
 }

@@ -2,11 +2,11 @@ use crate::acts::{Deeds, Told};
 use crate::agents::{all_masters, list_targets};
 use crate::depths::{list_bridges, list_discards};
 use crate::errands::Errands;
-use crate::ground::{Ground, Times, number};
+use crate::ground::{Ends, Ground, Times, number};
 use crate::programs::Draft;
-use board_model::{Board, Bridge, Lane, Master, Place, Planned, Target};
+use board_model::{Board, Bridge, Lane, Master, Planned, Target};
 use board_tree::Tree;
-use observe_told::{Counts, Ending, LineActs, Note, Seen, Unfound, Unseen, Who};
+use observe_told::{Counts, LineActs, Note, Seen, Unfound, Unseen, Who};
 use pci_command::{List, NoMemory, Phase};
 use std::alloc::Global;
 
@@ -26,7 +26,6 @@ struct Sought {
     bridges: Vec<Bridge>,
     targets: Vec<Target>,
     discards: Vec<Planned>,
-    acts: LineActs,
     notes: Vec<Note>,
 }
 
@@ -44,32 +43,37 @@ pub fn find(
 ) -> Result<LogFound, Unfound> {
     let mut ground = Ground::new(alloc, tree, lines, phases, times)?;
     let errands = Errands::of(&ground)?;
-    ground.claim(tree, &errands)?;
+    let ends = ground.claim(tree, &errands)?;
     let lanes = ground.lanes()?;
     let mut sought = Sought {
         bridges: Vec::new(alloc),
         targets: Vec::new(alloc),
         discards: Vec::new(alloc),
-        acts: LineActs::new(alloc),
         notes: Vec::new(alloc),
     };
-    let drafts = sought.seek(&ground, lanes.as_slice(), errands)?;
+    let (drafts, acts, fruitless) = sought.seek(&ground, lanes.as_slice(), errands, ends)?;
     ground.forget_buses();
     let masters = all_masters(&ground, drafts)?;
-    Ok(sought.with(&ground, masters))
+    let counts = Counts {
+        lines: number(lines.len()),
+        acts: number(acts.count()),
+        fruitless,
+    };
+    Ok(sought.with(masters, acts, counts))
 }
 
 impl Sought {
-    /// All that is found, and the programs that are not written out yet. Acts are listed once the
-    /// errands are let go, of which there are many.
+    /// All that is found: the programs that are not written out yet, the acts, and how many Retries
+    /// have none. Acts are listed once the errands are let go, of which there are many.
     fn seek(
         &mut self,
         ground: &Ground,
         lanes: &[Lane],
         errands: Errands,
-    ) -> Result<Vec<Draft>, Unfound> {
+        ends: Ends,
+    ) -> Result<(Vec<Draft>, LineActs, u32), Unfound> {
         let mut told = Told::new(ground, errands);
-        told.follow(lanes)?;
+        told.follow(lanes, ends)?;
         self.list(lanes, &told)?;
         let Told {
             errands,
@@ -78,9 +82,9 @@ impl Sought {
             ..
         } = told;
         let deeds = Deeds::new(ground, errands, &streams, &programs)?;
-        deeds.list_acts(&mut self.acts)?;
+        let (acts, fruitless) = deeds.acts()?;
         drop(deeds);
-        Ok(programs.into_drafts())
+        Ok((programs.into_drafts(), acts, fruitless))
     }
 
     fn list(&mut self, lanes: &[Lane], told: &Told) -> Result<(), Unfound> {
@@ -92,23 +96,22 @@ impl Sought {
         Ok(())
     }
 
-    /// The same, with the masters.
-    fn with(self, ground: &Ground, masters: Vec<Master>) -> LogFound {
+    /// The same, with the masters, the acts, and how many there are.
+    fn with(self, masters: Vec<Master>, acts: LineActs, counts: Counts) -> LogFound {
         let Sought {
             bridges,
             targets,
             discards,
-            acts,
             notes,
         } = self;
-        let counts = counts_of(ground, &acts);
+        let alloc = *bridges.allocator();
         LogFound {
             board: Board {
                 bridges: List::from_vec(bridges),
                 targets: List::from_vec(targets),
                 masters: List::from_vec(masters),
                 discards: List::from_vec(discards),
-                drops: List::from_vec(Vec::new(ground.alloc)),
+                drops: List::from_vec(Vec::new(alloc)),
             },
             acts,
             unseen: Unseen {
@@ -121,66 +124,23 @@ impl Sought {
 
 /// What was not looked at, and what did not end.
 fn note_rest(ground: &Ground, errands: &Errands, notes: &mut Vec<Note>) -> Result<(), NoMemory> {
+    for (errand, count) in &ground.further {
+        if let Some(op) = errands.op_of(*errand) {
+            let count = *count;
+            notes.push(Note::NotLookedAt { op, count })?;
+        }
+    }
     for place in 0..errands.count() {
         let errand = errands.get(place);
-        match errand.ended() {
-            None => {
-                let line = errands.first_line(&errand);
-                let seen = ground.seen(line);
-                if seen.is_some_and(|seen| matches!(seen.who, Who::Master(_))) {
-                    let op = errands.op_of(place);
-                    let asked = number(errands.lines_of(&errand).len());
-                    notes.push(Note::NotEnded { op, line, asked })?;
-                }
-            }
-            Some(ended) => {
-                let count = not_looked_at(ground, ended);
-                if count > 0
-                    && let Some(op) = errands.op_of(place)
-                {
-                    notes.push(Note::NotLookedAt { op, count })?;
-                }
+        if errand.ended().is_none() {
+            let line = errands.first_line(&errand);
+            let seen = ground.seen(line);
+            if seen.is_some_and(|seen| matches!(seen.who, Who::Master(_))) {
+                let op = errands.op_of(place);
+                let asked = number(errands.lines_of(&errand).len());
+                notes.push(Note::NotEnded { op, line, asked })?;
             }
         }
     }
     Ok(())
-}
-
-/// How many dwords of a read no act tells of: at a lane and of a lane all but the first.
-fn not_looked_at(ground: &Ground, line: u32) -> u32 {
-    let Some(seen) = ground.seen(line) else {
-        return 0;
-    };
-    let further = number(ground.moved(seen).len()).saturating_sub(1);
-    let is_lane = || {
-        matches!(seen.who, Who::Lane(_)) || matches!(ground.claimant(line), Place::Lane(_))
-    };
-    if further > 0 && seen.command.is_read() && is_lane() {
-        further
-    } else {
-        0
-    }
-}
-
-/// Counts what acts there are. A Retry with an effect has one, the latch.
-fn counts_of(ground: &Ground, acts: &LineActs) -> Counts {
-    let retries = ground
-        .lines
-        .iter()
-        .filter(|seen| seen.ending == Ending::Retry)
-        .count();
-    let acts_of_retries = (0..acts.count()).filter(|place| is_latch(ground, acts, *place));
-    let latches = acts_of_retries.count();
-    Counts {
-        lines: number(ground.lines.len()),
-        acts: number(acts.count()),
-        fruitless: number(retries).saturating_sub(number(latches)),
-    }
-}
-
-/// Whether the act at this place is of a line that ended with Retry.
-fn is_latch(ground: &Ground, acts: &LineActs, place: usize) -> bool {
-    let line = acts.get(place).map(|act| act.line);
-    line.and_then(|line| ground.seen(line))
-        .is_some_and(|seen| seen.ending == Ending::Retry)
 }

@@ -1,8 +1,7 @@
-use crate::errands::Errands;
-use crate::lane_lists::LaneLists;
+use crate::errands::{Errands, Wanted};
 use board_model::{Board, Lane, Place, bridge_to, end_of, primary_of};
 use board_tree::Tree;
-use observe_told::{Addressed, BusLines, Ending, Seen, Who};
+use observe_told::{Addressed, BusLines, Ending, LaneLists, Seen, Who};
 use pci_command::{NoMemory, Phase};
 use std::alloc::Global;
 
@@ -33,22 +32,29 @@ pub(crate) struct Ground<'a> {
     pub(crate) times: Times,
     claimants: Vec<Place>,
     on_buses: BusLines,
-    taken: LaneLists,
-    sent: LaneLists,
-    nears: LaneLists,
-    fars: LaneLists,
+    taken: LaneLists<u32>,
+    sent: LaneLists<u32>,
+    fars: LaneLists<u32>,
     /// Of each data phase its line.
     of_phases: Vec<u32>,
+    /// The lines with data that targets claim.
+    pub(crate) at_targets: Vec<u32>,
+    /// The reads of which acts tell of the first dword alone, and how many further ones there were.
+    pub(crate) further: Vec<(u32, u32)>,
 }
 
-/// A request as two errands of one request have it: its plain command, its address (in
-/// configuration space of type 1) and of a write its word.
-#[derive(Clone, Copy, Default, PartialEq, Eq, PartialOrd, Ord, Hash)]
-pub(crate) struct Wanted {
-    pub(crate) address: u64,
-    pub(crate) value: u32,
-    pub(crate) code: u8,
-    pub(crate) enables: u8,
+/// An errand as it began, and what it asks for.
+#[derive(Clone, Copy)]
+pub(crate) struct Begun {
+    pub(crate) wanted: Wanted,
+    pub(crate) errand: u32,
+}
+
+/// The errands that lanes claim, and those that they drive, each as they began.
+#[derive(Drop)]
+pub(crate) struct Ends {
+    pub(crate) nears: LaneLists<Begun>,
+    pub(crate) fars: LaneLists<Begun>,
 }
 
 /// A count or a place in 32 bits, of which a log has fewer.
@@ -76,32 +82,46 @@ impl<'a> Ground<'a> {
             on_buses,
             taken: LaneLists::new(alloc),
             sent: LaneLists::new(alloc),
-            nears: LaneLists::new(alloc),
             fars: LaneLists::new(alloc),
             of_phases,
+            at_targets: Vec::new(alloc),
+            further: Vec::new(alloc),
         })
     }
 
     /// Says who claims each line, and lists what is looked at lane by lane. All lines of an errand
-    /// ask for the same, so that who claims the first one claims the others.
-    pub(crate) fn claim(&mut self, tree: &Tree, errands: &Errands) -> Result<(), NoMemory> {
+    /// ask for the same, so that who claims the first one claims the others. They are numbered as
+    /// they begin.
+    pub(crate) fn claim(&mut self, tree: &Tree, errands: &Errands) -> Result<Ends, NoMemory> {
         let board = tree.board();
+        let mut ends = Ends {
+            nears: LaneLists::new(self.alloc),
+            fars: LaneLists::new(self.alloc),
+        };
+        let mut claimed: Vec<Place> = Vec::new(self.alloc);
         self.claimants.reserve(self.lines.len())?;
         for (place, seen) in self.lines.iter().enumerate() {
             let line = number(place);
             let errand = errands.of_line(line);
-            let first = errand.map_or(line, |errand| errands.first_of(errand));
-            let claimant = match self.claimants.get(first as usize).copied() {
-                Some(claimant) => claimant,
-                None => seen.claimant(board),
-            };
+            let found = errand.and_then(|errand| claimed.get(errand as usize).copied());
+            let claimant = found.unwrap_or_else(|| seen.claimant(board));
             self.claimants.push(claimant)?;
+            if is_moved(seen) && matches!(claimant, Place::Target(_)) {
+                self.at_targets.push(line)?;
+            }
             match errand {
-                Some(errand) => self.list_errand(errand, first == line, claimant, seen)?,
+                Some(errand) => {
+                    if found.is_none() {
+                        claimed.push(claimant)?;
+                        self.list_begun(&mut ends, errand, claimant, seen)?;
+                    }
+                    self.list_ended(errand, claimant, seen)?;
+                }
                 None => self.list_posted(line, claimant, seen)?,
             }
         }
-        self.list_open(errands)
+        self.list_open(errands)?;
+        Ok(ends)
     }
 
     fn list_posted(&mut self, line: u32, claimant: Place, seen: &Seen) -> Result<(), NoMemory> {
@@ -118,16 +138,29 @@ impl<'a> Ground<'a> {
         Ok(())
     }
 
-    /// The errand of the line, where this begins or ends it.
-    fn list_errand(
-        &mut self,
+    /// The errand that begins at the line.
+    fn list_begun(
+        &self,
+        ends: &mut Ends,
         errand: u32,
-        begins: bool,
         claimant: Place,
         seen: &Seen,
     ) -> Result<(), NoMemory> {
-        if begins && let Place::Lane(lane) = claimant {
-            self.nears.add(self.alloc, lane, errand)?;
+        let wanted = self.wanted(seen);
+        if let Place::Lane(lane) = claimant {
+            ends.nears.add(self.alloc, lane, Begun { wanted, errand })?;
+        }
+        if let Who::Lane(lane) = seen.who {
+            ends.fars.add(self.alloc, lane, Begun { wanted, errand })?;
+        }
+        Ok(())
+    }
+
+    /// The errand of the line, where this ends it.
+    fn list_ended(&mut self, errand: u32, claimant: Place, seen: &Seen) -> Result<(), NoMemory> {
+        let further = not_looked_at(seen, claimant);
+        if further > 0 {
+            self.further.push((errand, further))?;
         }
         if seen.ending != Ending::Retry
             && let Who::Lane(lane) = seen.who
@@ -141,7 +174,8 @@ impl<'a> Ground<'a> {
     fn list_open(&mut self, errands: &Errands) -> Result<(), NoMemory> {
         for errand in 0..errands.count() {
             if errands.get(errand).ended().is_none() {
-                let seen = self.lines.get(errands.first_of(errand) as usize);
+                let first = errands.first_line(&errands.get(errand));
+                let seen = self.lines.get(first as usize);
                 if let Some(Who::Lane(lane)) = seen.map(|seen| seen.who) {
                     self.fars.add(self.alloc, lane, errand)?;
                 }
@@ -157,7 +191,6 @@ impl<'a> Ground<'a> {
         self.on_buses = BusLines::none(alloc);
         self.taken = LaneLists::new(alloc);
         self.sent = LaneLists::new(alloc);
-        self.nears = LaneLists::new(alloc);
         self.fars = LaneLists::new(alloc);
     }
 
@@ -199,11 +232,6 @@ impl<'a> Ground<'a> {
     /// it ends.
     pub(crate) fn sent_by(&self, lane: Lane) -> &[u32] {
         self.sent.of(lane)
-    }
-
-    /// The errands that the lane claims, as they began.
-    pub(crate) fn nears_of(&self, lane: Lane) -> &[u32] {
-        self.nears.of(lane)
     }
 
     /// The errands that the lane drives, as they ended; behind them those that did not end.
@@ -405,6 +433,16 @@ fn is_moved(seen: &Seen) -> bool {
         Ending::Done => true,
         Ending::TargetAbort => seen.is_posted() || seen.command.is_read(),
         Ending::Retry | Ending::Nobody => false,
+    }
+}
+
+/// How many dwords of a read no act tells of: at a lane and of a lane all but the first.
+fn not_looked_at(seen: &Seen, claimant: Place) -> u32 {
+    let is_of_lane = matches!(seen.who, Who::Lane(_)) || matches!(claimant, Place::Lane(_));
+    if is_moved(seen) && seen.command.is_read() && is_of_lane {
+        u32::from(seen.count).saturating_sub(1)
+    } else {
+        0
     }
 }
 

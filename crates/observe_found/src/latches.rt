@@ -46,16 +46,14 @@ impl Sides<'_> {
     ) -> bool {
         let (strictness, floor) = asked;
         let errand = errands.get(near);
-        self.was_open(errands, far, &errand)
+        self.was_open(far, &errand)
             && (strictness == Strictness::Loose || self.serves(errands, far, &errand, floor))
             && self.was_asked(near, far.deadline())
     }
 
     /// Whether the near errand was open at some time of the far one.
-    fn was_open(&self, errands: &Errands, far: &Errand, near: &Errand) -> bool {
-        let ground = self.ground;
-        errands.start(ground, near) <= far.deadline()
-            && errands.start(ground, far) <= errands.open_until(ground, near)
+    fn was_open(&self, far: &Errand, near: &Errand) -> bool {
+        near.start() <= far.deadline() && far.start() <= near.open_until(self.ground)
     }
 
     /// Whether the far errand can have been made for the near one, with a latch from this place on.
@@ -99,7 +97,8 @@ impl Sides<'_> {
         near: u32,
     ) -> bool {
         let (made, asked) = (errands.get(far), errands.get(near));
-        let may_be = self.was_open(errands, &made, &asked)
+        let may_be = made.shown().is_some()
+            && self.was_open(&made, &asked)
             && self.may_serve(errands, &made, &asked)
             && self.was_asked(near, made.deadline());
         if !may_be {
@@ -116,7 +115,9 @@ impl Sides<'_> {
     /// The place from which on a latch for it may stand, where this far errand was made for the
     /// near one before: behind its end, since its completion was discarded.
     pub(crate) fn low_place(&self, errands: &Errands, near: &Errand, before: Option<u32>) -> u32 {
-        let before = before.map_or(Errand::NONE, |before| errands.get(before));
+        let Some(before) = before.map(|before| errands.get(before)) else {
+            return 0;
+        };
         match (before.ended(), self.ground.seen(errands.first_line(near))) {
             (Some(_ended), Some(seen)) => self.ground.first_behind(seen.bus, before.release()),
             _ => 0,

@@ -1,7 +1,8 @@
 use crate::choices::{Choices, PartOf};
-use crate::errands::Errands;
-use crate::ground::{Ground, NO_TIME, Wanted, number};
+use crate::errands::{Errands, Wanted};
+use crate::ground::{Ground, number};
 use crate::latches::{Sides, Strictness};
+use crate::parts::{Parts, Span};
 use crate::slots::Held;
 use crate::streams::Streams;
 use crate::trial::{Lists, Trial};
@@ -15,25 +16,6 @@ const MOST_TIMES: usize = 64;
 
 const MOST_ERRANDS: usize = 2_000_000;
 
-/// An errand at one end of a lane, by its rank among the lanes. Those of one request at one lane
-/// stand together, by when they began, and have one number.
-#[derive(Clone, Copy)]
-struct Entry {
-    errand: u32,
-    request: u32,
-    rank: u16,
-    is_far: bool,
-}
-
-/// By what the entries of a lane are sorted: request by request, by when they began.
-#[derive(Clone, Copy, PartialEq, Eq, PartialOrd, Ord)]
-struct Keyed {
-    wanted: Wanted,
-    start: u64,
-    is_far: bool,
-    errand: u32,
-}
-
 /// Errands of one request at one lane that are open together: behind them nothing of it is open.
 #[derive(Drop)]
 struct Part {
@@ -42,25 +24,13 @@ struct Part {
     nears: Vec<u32>,
 }
 
-/// Where a part stands among the entries of its lane, and how many near and far errands it has.
-#[derive(Clone, Copy, Default)]
-struct Span {
-    nears: u32,
-    first: usize,
-    end: usize,
-    fars: u32,
-    reach: u64,
-}
-
 /// What all lanes are paired by.
 #[derive(Clone, Copy)]
 struct Lanes<'a> {
     ground: &'a Ground<'a>,
     lanes: &'a [Lane],
     streams: &'a Streams,
-    entries: &'a [Entry],
-    /// Of each errand of a lane from when on somebody was asking for it.
-    asked: &'a [u64],
+    parts: &'a Parts,
     /// Whether a part that has no choice that suffices gets one that shows what is wrong.
     tells: bool,
 }
@@ -71,139 +41,18 @@ pub(crate) fn pair(
     ground: &Ground,
     lanes: &[Lane],
     streams: &Streams,
+    parts: &Parts,
     errands: &mut Errands,
 ) -> Result<(), Unfound> {
-    let entries = entries(ground, lanes, errands)?;
-    let asked = asked_times(ground, entries.as_slice(), errands)?;
     let mut all = Lanes {
         ground,
         lanes,
         streams,
-        entries: entries.as_slice(),
-        asked: asked.as_slice(),
+        parts,
         tells: false,
     };
     let mut choices = Choices::new(ground.alloc);
     all.settle(errands, &mut choices)
-}
-
-/// Lane by lane, and there as they are sorted. What they are sorted by stands there of one lane at
-/// a time.
-fn entries(ground: &Ground, lanes: &[Lane], errands: &Errands) -> Result<Vec<Entry>, NoMemory> {
-    let mut entries = Vec::new(ground.alloc);
-    let mut request = 0u32;
-    for (rank, lane) in lanes.iter().enumerate() {
-        let keyed = keyed_of(ground, *lane, errands)?;
-        let rank = u16::try_from(rank).unwrap_or(u16::MAX);
-        request = list_lane(rank, keyed.as_slice(), request, &mut entries)?;
-    }
-    Ok(entries)
-}
-
-/// The entries of a lane with what they are sorted by, as they are sorted.
-fn keyed_of(ground: &Ground, lane: Lane, errands: &Errands) -> Result<Vec<Keyed>, NoMemory> {
-    let mut keyed = Vec::new(ground.alloc);
-    for near in ground.nears_of(lane) {
-        keyed.push(keyed_by(ground, errands, *near, false))?;
-    }
-    for far in ground.fars_of(lane) {
-        keyed.push(keyed_by(ground, errands, *far, true))?;
-    }
-    keyed.sort_unstable();
-    Ok(keyed)
-}
-
-fn keyed_by(ground: &Ground, errands: &Errands, errand: u32, is_far: bool) -> Keyed {
-    let line = errands.first_of(errand);
-    Keyed {
-        wanted: wanted(ground, line),
-        start: ground.start(line),
-        is_far,
-        errand,
-    }
-}
-
-/// Lists the entries of a lane, whose requests are numbered from there on: the number behind them.
-fn list_lane(
-    rank: u16,
-    keyed: &[Keyed],
-    first: u32,
-    entries: &mut Vec<Entry>,
-) -> Result<u32, NoMemory> {
-    let mut request = first;
-    let mut before = Wanted::default();
-    for keyed in keyed {
-        if keyed.wanted != before {
-            request = request.saturating_add(1);
-            before = keyed.wanted;
-        }
-        entries.push(Entry {
-            errand: keyed.errand,
-            request,
-            rank,
-            is_far: keyed.is_far,
-        })?;
-    }
-    Ok(request.saturating_add(1))
-}
-
-/// Of each errand of a lane the first time at which it can have been made for somebody.
-fn asked_times(
-    ground: &Ground,
-    entries: &[Entry],
-    errands: &Errands,
-) -> Result<Vec<u64>, NoMemory> {
-    let mut asked = vec![in ground.alloc; 0u64; errands.count() as usize]?;
-    let mut reaches = Vec::new(ground.alloc);
-    for same in entries.chunk_by(|one, other| one.request == other.request) {
-        list_reaches(ground, same, errands, &mut reaches)?;
-        note_asked(ground, same, errands, reaches.as_slice(), &mut asked);
-    }
-    Ok(asked)
-}
-
-/// The same of errands of one request at one lane: it was made for one that had not ended when it
-/// did.
-fn note_asked(
-    ground: &Ground,
-    same: &[Entry],
-    errands: &Errands,
-    reaches: &[u64],
-    asked: &mut Vec<u64>,
-) {
-    for far in same.iter().filter(|entry| entry.is_far) {
-        let ended = errands.get(far.errand).ended();
-        let ended = ended.map_or(NO_TIME, |line| ground.start(line));
-        let at = reaches.partition_point(|reach| *reach < ended);
-        let near = same.get(at).map(|near| errands.get(near.errand));
-        if let Some(slot) = asked.get_mut(far.errand as usize) {
-            *slot = near.map_or(NO_TIME, |near| errands.start(ground, &near));
-        }
-    }
-}
-
-/// Of each of them how long it and the near ones before it were open.
-fn list_reaches(
-    ground: &Ground,
-    same: &[Entry],
-    errands: &Errands,
-    reaches: &mut Vec<u64>,
-) -> Result<(), NoMemory> {
-    reaches.clear();
-    let mut reach = 0u64;
-    for entry in same {
-        if !entry.is_far {
-            reach = reach.max(errands.open_until(ground, &errands.get(entry.errand)));
-        }
-        reaches.push(reach)?;
-    }
-    Ok(())
-}
-
-fn wanted(ground: &Ground, line: u32) -> Wanted {
-    ground
-        .seen(line)
-        .map_or(Wanted::default(), |seen| ground.wanted(seen))
 }
 
 impl Part {
@@ -215,52 +64,36 @@ impl Part {
         }
     }
 
-    /// The part that stands there.
+    /// The part of a lane that stands there. Of far errands only such are of it as have an effect.
     fn fill(
         &mut self,
         ground: &Ground,
-        own: &[Entry],
-        span: &Span,
+        rank: u32,
+        (parts, span): (&Parts, &Span),
         errands: &Errands,
     ) -> Result<(), NoMemory> {
         self.fars.clear();
         self.nears.clear();
-        for entry in own.get(span.first..span.end).unwrap_or(&[]) {
+        let first = parts.at(span.first);
+        let mut entry = first;
+        for _ in 0..span.count() {
             if !entry.is_far {
                 self.nears.push(entry.errand)?;
             } else if errands.get(entry.errand).shown().is_some() {
                 self.fars.push(entry.errand)?;
             }
+            entry = parts.at(entry.next);
         }
-        if let Some(entry) = own.get(span.first) {
-            let first = errands.get(entry.errand);
-            self.of = PartOf {
-                rank: u32::from(entry.rank),
-                first: entry.errand,
-                wanted: wanted(ground, errands.first_line(&first)),
-                start: errands.start(ground, &first),
-                reach: span.reach,
-            };
-        }
+        let begun = errands.get(first.errand);
+        let seen = ground.seen(errands.first_line(&begun));
+        self.of = PartOf {
+            rank,
+            first: first.errand,
+            wanted: seen.map_or(Wanted::default(), |seen| ground.wanted(seen)),
+            start: begun.start(),
+            reach: span.reach,
+        };
         Ok(())
-    }
-}
-
-impl Span {
-    /// Whether an entry that began then goes on with what begins with the one before.
-    fn goes_on(&self, before: &Entry, entry: &Entry, start: u64) -> bool {
-        before.request == entry.request && start <= self.reach
-    }
-
-    /// With the entry at this place.
-    fn with(self, place: usize, is_far: bool, until: u64) -> Span {
-        Span {
-            nears: self.nears.saturating_add(u32::from(!is_far)),
-            first: self.first,
-            end: place.saturating_add(1),
-            fars: self.fars.saturating_add(u32::from(is_far)),
-            reach: self.reach.max(until),
-        }
     }
 }
 
@@ -268,7 +101,7 @@ impl Lanes<'_> {
     /// Pairs all lanes with other orders of trying until each part has a choice that suffices; where
     /// none of them does, once more so that it shows what is wrong.
     fn settle(&mut self, errands: &mut Errands, choices: &mut Choices) -> Result<(), Unfound> {
-        let times = MOST_TIMES.min(1 + MOST_ERRANDS / self.entries.len().max(1));
+        let times = MOST_TIMES.min(1 + MOST_ERRANDS / self.parts.entries.len().max(1));
         for _ in 0..times {
             if self.pair(errands, choices)? {
                 return Ok(());
@@ -287,14 +120,8 @@ impl Lanes<'_> {
     /// Whether each part has a choice that suffices, which then is made.
     fn pair(&self, errands: &mut Errands, choices: &mut Choices) -> Result<bool, Unfound> {
         choices.begin();
-        let mut end = 0usize;
         for rank in 0..self.lanes.len() {
-            let first = end;
-            end = self
-                .entries
-                .partition_point(|entry| usize::from(entry.rank) <= rank);
-            let own = self.entries.get(first..end).unwrap_or(&[]);
-            if !self.pair_lane(number(rank), own, errands, choices)? {
+            if !self.pair_lane(number(rank), errands, choices)? {
                 return Ok(false);
             }
         }
@@ -304,25 +131,27 @@ impl Lanes<'_> {
     fn pair_lane(
         &self,
         rank: u32,
-        own: &[Entry],
         errands: &mut Errands,
         choices: &mut Choices,
     ) -> Result<bool, Unfound> {
         let Some(sides) = self.sides(rank) else {
             return Ok(true);
         };
-        let spans = self.spans(own, errands)?;
+        let parts = self.parts;
         let mut held = Held::new(self.ground, sides.stream.lane)?;
         let mut part = Part::new(self.ground);
         let mut lists = Lists::new(self.ground.alloc);
-        for span in &spans {
-            if let Some((far, near, first)) = only_two(own, span)
+        for span in parts.of_lane(rank) {
+            if let Some((far, near, first)) = parts.only_two(span)
                 && sides.pair_alone(errands, &mut held, far, near)
             {
                 choices.mend(rank, first);
                 continue;
             }
-            part.fill(self.ground, own, span, errands)?;
+            part.fill(self.ground, rank, (parts, span), errands)?;
+            if part.fars.is_empty() {
+                continue;
+            }
             sort_by_shown(self.ground, errands, &mut part.fars);
             let trying = choices.of(&part.of);
             let errands_of = (part.fars.as_slice(), part.nears.as_slice());
@@ -344,38 +173,13 @@ impl Lanes<'_> {
             ground: self.ground,
             stream: self.streams.of(lane)?,
             back: self.streams.of(back)?,
-            asked: if self.tells { &[] } else { self.asked },
+            asked: if self.tells {
+                &[]
+            } else {
+                self.parts.asked.as_slice()
+            },
             mode: bridge_to(self.ground.board, lane.bus).is_some_and(|bridge| bridge.mode),
         })
-    }
-
-    /// The parts of a lane that have far errands, those with few choices first. Of far errands only
-    /// such count as have an effect.
-    fn spans(&self, own: &[Entry], errands: &Errands) -> Result<Vec<Span>, NoMemory> {
-        let mut spans = Vec::new(self.ground.alloc);
-        let mut span = Span::default();
-        for (place, entry) in own.iter().enumerate() {
-            let errand = errands.get(entry.errand);
-            if entry.is_far && errand.shown().is_none() {
-                continue;
-            }
-            let start = errands.start(self.ground, &errand);
-            let goes_on = own
-                .get(span.first)
-                .is_some_and(|before| span.goes_on(before, entry, start));
-            if !goes_on {
-                list_span(&mut spans, span)?;
-                span = Span {
-                    first: place,
-                    ..Span::default()
-                };
-            }
-            let until = errands.open_until(self.ground, &errand);
-            span = span.with(place, entry.is_far, until);
-        }
-        list_span(&mut spans, span)?;
-        spans.sort_by_key(|span| span.nears)?;
-        Ok(spans)
     }
 
     fn try_part(
@@ -407,15 +211,6 @@ impl Lanes<'_> {
     }
 }
 
-/// The far errand and the near one of a part of two, and the first of them.
-fn only_two(own: &[Entry], span: &Span) -> Option<(u32, u32, u32)> {
-    match own.get(span.first..span.end)? {
-        [near, far] if far.is_far && !near.is_far => Some((far.errand, near.errand, near.errand)),
-        [far, near] if far.is_far && !near.is_far => Some((far.errand, near.errand, far.errand)),
-        _ => None,
-    }
-}
-
 /// Whether the part has a choice that suffices; where too many would have to be tried it has none,
 /// if others are tried otherwise.
 fn suffices(
@@ -428,13 +223,6 @@ fn suffices(
         Err(Unfound::TooManyPairings { .. }) if may_fail => Ok(false),
         found => found,
     }
-}
-
-fn list_span(spans: &mut Vec<Span>, span: Span) -> Result<(), NoMemory> {
-    if span.fars > 0 {
-        spans.push(span)?;
-    }
-    Ok(())
 }
 
 /// Far errands in the order in which they were shown.

@@ -1,5 +1,5 @@
 use crate::errands::{Errand, Errands};
-use crate::ground::{Ground, NO_PLACE};
+use crate::ground::{Ground, NO_PLACE, number};
 use crate::pieces::{Piece, pieces};
 use crate::streams::Streams;
 use board_model::{Master, Name, Op, Place};
@@ -111,10 +111,8 @@ impl Programs {
         errands: &mut Errands,
     ) -> Result<(), Unfound> {
         self.begin(ground)?;
-        for bus in 0..=255u8 {
-            for line in ground.on_bus(bus) {
-                self.write_line(ground, streams, errands, *line)?;
-            }
+        for (line, seen) in ground.lines.iter().enumerate() {
+            self.write_line(ground, streams, errands, (number(line), seen))?;
         }
         Ok(())
     }
@@ -149,11 +147,8 @@ impl Programs {
         ground: &Ground,
         streams: &mut Streams,
         errands: &mut Errands,
-        line: u32,
+        (line, seen): (u32, &Seen),
     ) -> Result<(), Unfound> {
-        let Some(seen) = ground.seen(line) else {
-            return Ok(());
-        };
         let Who::Master(home) = seen.who else {
             return Ok(());
         };

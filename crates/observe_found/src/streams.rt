@@ -1,6 +1,6 @@
 use crate::ground::{Ground, number};
 use board_model::Lane;
-use observe_told::{Ending, HeldPhase, MaybeOp, MaybePlace, Unfound};
+use observe_told::{BusPlaces, Ending, HeldPhase, MaybeOp, MaybePlace, Unfound};
 use pci_command::{NoMemory, OpId, Phase};
 use std::alloc::Global;
 use std::collections::{BTreeMap, VecDeque};
@@ -28,14 +28,6 @@ pub(crate) struct Track {
 pub(crate) struct Lost {
     pub(crate) first: u32,
     pub(crate) count: u32,
-}
-
-/// Places on a bus in their order, and of each so many lines of the bus how many of them stand
-/// before these.
-#[derive(Drop)]
-struct BusPlaces {
-    all: Vec<u32>,
-    before: Vec<u32>,
 }
 
 /// The data phases that a lane took, in order, and how they left.
@@ -78,47 +70,6 @@ impl Track {
     };
 }
 
-impl BusPlaces {
-    /// None yet.
-    fn new(alloc: Global) -> BusPlaces {
-        BusPlaces {
-            all: Vec::new(alloc),
-            before: Vec::new(alloc),
-        }
-    }
-
-    /// One more, behind all others.
-    fn add(&mut self, place: u32) -> Result<(), NoMemory> {
-        let count = number(self.all.len());
-        for _block in self.before.len()..=block_of(place) {
-            self.before.push(count)?;
-        }
-        self.all.push(place)?;
-        Ok(())
-    }
-
-    /// How many stand before this place.
-    fn before(&self, place: u32) -> usize {
-        let block = block_of(place);
-        let first = self.first_of(block);
-        let own = self.all.get(first..self.first_of(block.saturating_add(1)));
-        first.saturating_add(own.unwrap_or(&[]).partition_point(|own| *own < place))
-    }
-
-    /// How many stand before this block of lines.
-    fn first_of(&self, block: usize) -> usize {
-        match self.before.get(block) {
-            Some(before) => *before as usize,
-            None => self.all.len(),
-        }
-    }
-}
-
-/// The block of lines in which the place stands.
-fn block_of(place: u32) -> usize {
-    (place / 32) as usize
-}
-
 impl Stream {
     /// How many data phases had left before this place of the far bus.
     pub(crate) fn left_before(&self, place: u32) -> u32 {
@@ -134,7 +85,7 @@ impl Stream {
 
     /// The place on the near bus of the line that brought the data phase of this number, from 0.
     pub(crate) fn place_of(&self, count: u32) -> Option<u32> {
-        self.brought.all.get(count as usize).copied()
+        self.brought.get(count)
     }
 }
 

@@ -112,7 +112,7 @@ impl Lists {
         let mut reach = 0u64;
         for near in nears {
             let errand = errands.get(*near);
-            let until = errands.open_until(ground, &errand);
+            let until = errand.open_until(ground);
             if errand.ended().is_some() {
                 reach = reach.max(until);
                 self.ended.push(*near)?;
@@ -123,7 +123,7 @@ impl Lists {
             }
         }
         self.by_end
-            .sort_unstable_by_key(|near| errands.open_until(ground, &errands.get(*near)));
+            .sort_unstable_by_key(|near| errands.get(*near).open_until(ground));
         Ok(())
     }
 
@@ -136,13 +136,13 @@ impl Lists {
         asked: (Strictness, u32),
     ) -> Result<(), NoMemory> {
         let ground = sides.ground;
-        let start = errands.start(ground, far);
+        let start = far.start();
         let first = self
             .reaches
             .as_slice()
             .partition_point(|reach| *reach < start);
         for near in self.ended.iter().skip(first) {
-            if errands.start(ground, &errands.get(*near)) > far.deadline() {
+            if errands.get(*near).start() > far.deadline() {
                 break;
             }
             if sides.may_be_for(errands, far, *near, asked) {
@@ -179,7 +179,7 @@ impl<'a> Trial<'a> {
     }
 
     fn open_until(&self, errands: &Errands, near: u32) -> u64 {
-        errands.open_until(self.sides.ground, &errands.get(near))
+        errands.get(near).open_until(self.sides.ground)
     }
 
     /// The first far errand for which nobody was asking.
@@ -423,7 +423,7 @@ impl<'a> Trial<'a> {
             UNSERVED
         };
         if self.trying == Trying::FirstBegun {
-            let until = errands.start(self.sides.ground, &errand);
+            let until = errand.start();
             return Rank {
                 stage,
                 is_other: false,

@@ -1,4 +1,4 @@
-use crate::ground::{Ground, address_of_line, number};
+use crate::ground::{Ground, address_of_line};
 use board_model::{Opening, Place};
 use observe_told::{Seen, Unfound, Who};
 use pci_command::{NoMemory, Phase, Space};
@@ -57,9 +57,10 @@ impl Openings {
 
     /// Lists the dwords that may have opened as something else than 0.
     fn list_all(&mut self, ground: &Ground) -> Result<(), NoMemory> {
-        for (line, seen) in ground.lines.iter().enumerate() {
-            if seen.command.is_read()
-                && let Some(target) = target_of(ground, number(line), seen)
+        for line in &ground.at_targets {
+            if let Some(seen) = ground.seen(*line)
+                && seen.command.is_read()
+                && let Some(target) = target_of(ground, *line, seen)
             {
                 self.list_read(first_dword(seen, target), looked_at(ground, seen))?;
             }
@@ -88,9 +89,11 @@ impl Openings {
         if self.dwords.is_empty() {
             return Ok(());
         }
-        for (line, seen) in ground.lines.iter().enumerate() {
-            if let Some(target) = target_of(ground, number(line), seen) {
-                self.follow(ground, number(line), seen, first_dword(seen, target))?;
+        for line in &ground.at_targets {
+            if let Some(seen) = ground.seen(*line)
+                && let Some(target) = target_of(ground, *line, seen)
+            {
+                self.follow(ground, *line, seen, first_dword(seen, target))?;
             }
         }
         Ok(())

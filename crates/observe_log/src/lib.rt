@@ -19,5 +19,5 @@ mod text;
 mod told;
 
 pub use fault::LogFault;
-pub use text::{read_log, read_log_board};
+pub use text::{faulty_word, read_log, read_log_board};
 pub use told::is_told;

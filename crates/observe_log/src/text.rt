@@ -9,6 +9,7 @@ use crate::parts::{behind_first_line, find_log};
 use crate::reading::Reading;
 use board_model::Board;
 use observe_told::Log;
+use pci_command::NoMemory;
 use std::alloc::Global;
 use text_faults::OrNoMemory;
 
@@ -44,4 +45,17 @@ pub fn read_log_board(alloc: Global, bytes: &[u8]) -> Result<Board, OrNoMemory<L
     let found = find_log(bytes, at)?;
     let board = read_board(alloc, &bytes[at..found.start])?;
     Ok(board)
+}
+
+/// Which word of its line the first fault of a log text is, from 0, where it is a line behind `log`
+/// that has one: else 0.
+pub fn faulty_word(alloc: Global, bytes: &[u8]) -> Result<usize, NoMemory> {
+    if bytes.len() >= 0x8000_0000 {
+        return Ok(0);
+    }
+    match read_log(alloc, bytes) {
+        Err(OrNoMemory::Fault(LogFault::Log { word, .. })) => Ok(word),
+        Err(OrNoMemory::NoMemory) => Err(NoMemory),
+        _ => Ok(0),
+    }
 }

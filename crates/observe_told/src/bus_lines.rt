@@ -66,6 +66,60 @@ impl BusLines {
     }
 }
 
+/// Places on a bus in their order, and of each so many lines of the bus how many of them stand
+/// before these.
+#[derive(Drop)]
+pub struct BusPlaces {
+    all: Vec<u32>,
+    before: Vec<u32>,
+}
+
+impl BusPlaces {
+    /// None yet.
+    pub fn new(alloc: Global) -> BusPlaces {
+        BusPlaces {
+            all: Vec::new(alloc),
+            before: Vec::new(alloc),
+        }
+    }
+
+    /// One more, behind all others.
+    pub fn add(&mut self, place: u32) -> Result<(), NoMemory> {
+        let count = u32::try_from(self.all.len()).unwrap_or(u32::MAX);
+        for _block in self.before.len()..=block_of(place) {
+            self.before.push(count)?;
+        }
+        self.all.push(place)?;
+        Ok(())
+    }
+
+    /// The one of this number, from 0.
+    pub fn get(&self, number: u32) -> Option<u32> {
+        self.all.get(number as usize).copied()
+    }
+
+    /// How many stand before this place.
+    pub fn before(&self, place: u32) -> usize {
+        let block = block_of(place);
+        let first = self.first_of(block);
+        let own = self.all.get(first..self.first_of(block.saturating_add(1)));
+        first.saturating_add(own.unwrap_or(&[]).partition_point(|own| *own < place))
+    }
+
+    /// How many stand before this block of lines.
+    fn first_of(&self, block: usize) -> usize {
+        match self.before.get(block) {
+            Some(before) => *before as usize,
+            None => self.all.len(),
+        }
+    }
+}
+
+/// The block of lines in which the place stands.
+fn block_of(place: u32) -> usize {
+    (place / 32) as usize
+}
+
 /// Of each bus how many lines the buses before it have.
 fn count_buses(firsts: &mut Vec<u32>, seen: &[Seen]) {
     for seen in seen {

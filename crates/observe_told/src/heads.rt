@@ -3,15 +3,6 @@ use board_model::Place;
 use history_model::Event;
 use pci_command::{NoMemory, OpId};
 use std::alloc::Global;
-use std::ops::Range;
-
-/// The acts of a bus that are left: the place of the next, and the one behind the last.
-#[derive(Clone, Copy, Debug)]
-struct Head {
-    bus: u8,
-    next: usize,
-    end: usize,
-}
 
 /// The next act of a bus, by its place among all acts.
 #[derive(Clone, Copy, Debug)]
@@ -20,7 +11,6 @@ pub struct Candidate {
     pub end: u64,
     pub line: u32,
     place: u32,
-    head: u32,
     pub bus: u8,
     /// It was refused, and nothing happened on its bus since.
     is_refused: bool,
@@ -31,33 +21,24 @@ pub struct Candidate {
 pub struct Heads<'a> {
     acts: &'a LineActs,
     lines: &'a [Seen],
-    heads: Vec<Head>,
     /// The next act of each bus, by when its line began.
     candidates: Vec<Candidate>,
 }
 
 impl<'a> Heads<'a> {
-    /// All acts, which stand bus by bus.
+    /// All acts.
     pub fn new(
         alloc: Global,
         acts: &'a LineActs,
         lines: &'a [Seen],
     ) -> Result<Heads<'a>, NoMemory> {
-        let mut heads = Vec::new(alloc);
-        for place in 0..acts.count() {
-            let line = acts.get(place).map(|act| act.line);
-            if let Some(seen) = line.and_then(|line| lines.get(line as usize)) {
-                list(&mut heads, seen.bus, place)?;
-            }
-        }
         let mut all = Heads {
             acts,
             lines,
-            heads,
             candidates: Vec::new(alloc),
         };
-        for head in 0..all.heads.len() {
-            if let Some(candidate) = all.candidate(head) {
+        for bus in 0..=255u8 {
+            if let Some(candidate) = all.candidate(acts.first_on(bus)) {
                 all.candidates.push(candidate)?;
             }
         }
@@ -78,7 +59,7 @@ impl<'a> Heads<'a> {
 
     /// The act of the candidate.
     pub fn act(&self, candidate: &Candidate) -> Option<SeenAct> {
-        self.acts.get(candidate.place as usize)
+        self.acts.get(candidate.place)
     }
 
     /// The same as an event.
@@ -123,18 +104,14 @@ impl<'a> Heads<'a> {
 
     /// The candidate at this place was taken: its bus goes on to the next act. The line of the act.
     pub fn take(&mut self, place: usize) -> u32 {
-        let Some(Candidate { line, head, .. }) = self.candidates.get(place).copied() else {
+        let Some(taken) = self.candidates.get(place).copied() else {
             return 0;
         };
-        let head = head as usize;
-        if let Some(head) = self.heads.get_mut(head) {
-            head.next = head.next.saturating_add(1);
-        }
-        match self.candidate(head) {
+        match self.candidate(self.acts.behind(taken.place)) {
             Some(next) => put(&mut self.candidates, place, next),
             None => self.close(place),
         }
-        line
+        taken.line
     }
 
     fn close(&mut self, place: usize) {
@@ -152,26 +129,29 @@ impl<'a> Heads<'a> {
         }
     }
 
-    fn candidate(&self, place: usize) -> Option<Candidate> {
-        let head = self.heads.get(place).filter(|head| head.next < head.end)?;
-        let act = self.acts.get(head.next)?;
-        let seen = self.seen(act.line)?;
+    /// The act at this place, if there is one.
+    fn candidate(&self, place: Option<u32>) -> Option<Candidate> {
+        let place = place?;
+        let line = self.acts.get(place)?.line;
+        let seen = self.seen(line)?;
         Some(Candidate {
             start: seen.start,
             end: seen.end,
-            line: act.line,
-            place: u32::try_from(head.next).ok()?,
-            head: u32::try_from(place).ok()?,
-            bus: head.bus,
+            line,
+            place,
+            bus: seen.bus,
             is_refused: false,
         })
     }
 
     /// Whether an act of the operation is left on the bus.
     pub fn has_left(&self, bus: u8, op: OpId) -> bool {
-        for place in self.left_on(bus) {
-            if self.acts.get(place).is_some_and(|act| act.op == op) {
-                return true;
+        let mut left = self.left_on(bus);
+        for _act in 0..self.acts.count() {
+            match left.and_then(|place| self.acts.get(place)) {
+                Some(act) if act.op == op => return true,
+                Some(_) => left = left.and_then(|place| self.acts.behind(place)),
+                None => return false,
             }
         }
         false
@@ -179,31 +159,34 @@ impl<'a> Heads<'a> {
 
     /// The first line that is left on the bus at which the operation is claimed so.
     pub fn first_left(&self, bus: u8, op: OpId, claimed: Place) -> Option<u32> {
-        for place in self.left_on(bus) {
-            let act = self.acts.get(place)?;
+        let mut left = self.left_on(bus);
+        for _act in 0..self.acts.count() {
+            let act = self.acts.get(left?)?;
             if act.op == op && act.place == claimed {
                 return Some(act.line);
             }
+            left = self.acts.behind(left?);
         }
         None
     }
 
-    /// The places of the acts of the bus that are left.
-    fn left_on(&self, bus: u8) -> Range<usize> {
-        match self.heads.iter().find(|head| head.bus == bus) {
-            Some(head) => head.next..head.end,
-            None => 0..0,
-        }
+    /// The place of the next act of the bus.
+    fn left_on(&self, bus: u8) -> Option<u32> {
+        let next = self.candidates.iter().find(|next| next.bus == bus);
+        next.map(|next| next.place)
     }
 
     /// All acts that are left, by when their lines began.
     pub fn left(&self, alloc: Global) -> Result<Vec<SeenAct>, NoMemory> {
         let mut left = Vec::new(alloc);
-        for head in &self.heads {
-            for place in head.next..head.end {
-                if let Some(act) = self.acts.get(place) {
-                    left.push(act)?;
-                }
+        for candidate in &self.candidates {
+            let mut next = Some(candidate.place);
+            for _act in 0..self.acts.count() {
+                let Some(act) = next.and_then(|place| self.acts.get(place)) else {
+                    break;
+                };
+                left.push(act)?;
+                next = next.and_then(|place| self.acts.behind(place));
             }
         }
         let lines = self.lines;
@@ -234,29 +217,4 @@ fn put(candidates: &mut Vec<Candidate>, place: usize, next: Candidate) {
 /// Whether its line began later.
 fn is_later(one: &Candidate, other: &Candidate) -> bool {
     (other.start, other.line) < (one.start, one.line)
-}
-
-/// The act at this place is of this bus.
-fn list(heads: &mut Vec<Head>, bus: u8, place: usize) -> Result<(), NoMemory> {
-    if is_last_of(heads.as_slice(), bus) {
-        lengthen(heads.as_mut_slice(), place.saturating_add(1));
-        return Ok(());
-    }
-    heads.push(Head {
-        bus,
-        next: place,
-        end: place.saturating_add(1),
-    })?;
-    Ok(())
-}
-
-fn is_last_of(heads: &[Head], bus: u8) -> bool {
-    heads.last().is_some_and(|head| head.bus == bus)
-}
-
-/// The acts of the last bus end here.
-fn lengthen(heads: &mut [Head], end: usize) {
-    if let Some(head) = heads.last_mut() {
-        head.end = end;
-    }
 }

@@ -4,6 +4,7 @@
 
 mod bus_lines;
 mod heads;
+mod lane_lists;
 mod maybe;
 mod refusal;
 mod seen;
@@ -11,8 +12,9 @@ mod seen_act;
 mod unseen;
 mod woven;
 
-pub use bus_lines::{BusLines, bump};
+pub use bus_lines::{BusLines, BusPlaces, bump};
 pub use heads::{Candidate, Heads};
+pub use lane_lists::LaneLists;
 pub use maybe::{MaybeOp, MaybePlace};
 pub use refusal::{ActsTold, Brought, HeldPhase, Refused, RefusedLog, Retold, Unfound, WhyNot};
 pub use seen::{Addressed, Ending, LineWord, Log, Seen, Who};

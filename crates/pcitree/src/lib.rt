@@ -6,7 +6,7 @@ mod program;
 mod surely;
 mod words;
 
-pub use command_observe::{Retelling, retell};
+pub use command_observe::{Retelling, faulty_word, retell};
 pub use command_runs::{Gate, NoGate};
 pub use program::pcitree;
 pub use program_status::{BoardFault, Status};

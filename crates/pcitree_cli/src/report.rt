@@ -1,7 +1,8 @@
 use pci_command::NoMemory;
-use pcitree::{Status, input_limit, retell};
+use pcitree::{Status, faulty_word, input_limit, retell};
 use program_messages::{
-    MOST_DRAWN, form_of, limit_words, message, message_of_log, not_shown, note, unread, unwritten,
+    MOST_DRAWN, form_of, limit_words, message, message_of_bad_log, message_of_log, not_shown, note,
+    unread, unwritten,
 };
 use program_pages::Message;
 use program_words::usage_help;
@@ -49,6 +50,10 @@ fn message_of(
         (Status::TooManyEvents { .. }, _) => note(rt.alloc(), MOST_DRAWN),
         (Status::NotShown, [_adverse, _file, read, write]) => {
             not_shown(rt.alloc(), input, read.as_str(), write.as_str())
+        }
+        (Status::BadLog { .. }, _) => {
+            let word = faulty_word(rt.alloc(), input)?;
+            message_of_bad_log(rt.alloc(), name, input, &status, word)
         }
         (Status::NotTold { .. } | Status::ToldTo { .. }, _) => {
             let read = retell(rt.alloc(), input)?;

@@ -17,7 +17,7 @@ mod unshown;
 
 pub use asked::{Asked, asked_for};
 pub use form::{InputForm, MOST_DRAWN, form_of, limit_words};
-pub use log::message_of_log;
+pub use log::{message_of_bad_log, message_of_log};
 pub use ports::{unread, unwritten};
 pub(crate) use telling::about;
 pub use telling::{message, note};

@@ -3,33 +3,40 @@ ghost use Rattle.std.specs.List.{list_all};
 ghost use Rattle.program_pages.specs.shown.Shown.{is_shown};
 
 use crate::refused::TOO_LONG;
-use observe_log::{LogFault, read_log};
 use observe_told::RefusedLog;
 use pci_command::NoMemory;
 use program_pages::{Fault, Message, Spot, Teller, line_at, place_of};
 use program_status::Status;
 use run_reasons::{Reason, reason_of_log};
 use std::alloc::Global;
-use text_faults::OrNoMemory;
 
 /// Which word of a line of a log is its command, from 0.
 const COMMAND: usize = 3;
 
-/// A line of a log outside its board is at fault: the word that is.
-pub(crate) fn tell_log_line(
-    teller: &mut Teller,
-    input: &[u8],
-    number: u32,
-) -> Result<(), NoMemory> {
-    let word = word_at_fault(teller.alloc(), input)?;
-    let sentence = teller.sentence()?;
-    point_at_word(teller, input, number, word, sentence.as_str())
-}
-
-/// What a line of a log shows is more than may be: its command.
+/// What a line of a log shows is more than may be, or not known to be at fault: its command.
 pub(crate) fn tell_seen(teller: &mut Teller, input: &[u8], number: u32) -> Result<(), NoMemory> {
     let sentence = teller.sentence()?;
     point_at_word(teller, input, number, COMMAND, sentence.as_str())
+}
+
+/// What a status says of a log of which a line outside its board is at fault: this word of it, by
+/// its place from 0, and why.
+pub fn message_of_bad_log(
+    alloc: Global,
+    name: &str,
+    input: &[u8],
+    status: &Status,
+    word: usize,
+) -> Result<Message, NoMemory>
+    ensures { IfOk result (λ message. IsTrue (list_all is_shown message)) }
+{
+    let mut teller = Teller::new(alloc, name, Fault::of(status));
+    if let Status::BadLog { line, .. } = *status {
+        let sentence = teller.sentence()?;
+        point_at_word(&mut teller, input, line, word, sentence.as_str())?;
+        teller.more()?;
+    }
+    Ok(teller.into_message())
 }
 
 /// What a status says of a log that is refused: the command of the line, and why.
@@ -77,17 +84,6 @@ fn tell_reason(
         teller.note(note.as_str())?;
     }
     Ok(())
-}
-
-fn word_at_fault(alloc: Global, input: &[u8]) -> Result<usize, NoMemory> {
-    if input.len() >= TOO_LONG {
-        return Ok(0);
-    }
-    match read_log(alloc, input) {
-        Err(OrNoMemory::Fault(LogFault::Log { word, .. })) => Ok(word),
-        Err(OrNoMemory::NoMemory) => Err(NoMemory),
-        _ => Ok(0),
-    }
 }
 
 /// A line of this number, a word of it by its place from 0, and a sentence. Behind the last word what

@@ -6,7 +6,7 @@ ghost use Rattle.program_messages.specs.Quiet.{IsQuiet};
 use crate::board::tell_board;
 use crate::event::tell_event;
 use crate::form::InputForm;
-use crate::log::{tell_log_line, tell_seen};
+use crate::log::tell_seen;
 use crate::machine::tell_machine_line;
 use crate::trace::tell_trace_line;
 use pci_command::NoMemory;
@@ -89,9 +89,10 @@ fn tell(
         Status::NotRun { .. } | Status::DrawnTo { .. } | Status::Incomplete { .. } => {
             tell_event(teller, input, form)
         }
-        Status::BadLog { line, .. } => tell_log_line(teller, input, line),
-        Status::NotTold { line, .. } | Status::TooMuch { line, .. } | Status::ToldTo { line, .. } =>
-            { tell_seen(teller, input, line) }
+        Status::BadLog { line, .. }
+        | Status::NotTold { line, .. }
+        | Status::TooMuch { line, .. }
+        | Status::ToldTo { line, .. } => tell_seen(teller, input, line),
         _ => Ok(()),
     }
 }

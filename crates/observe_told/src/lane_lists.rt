@@ -2,35 +2,35 @@ use board_model::Lane;
 use pci_command::NoMemory;
 use std::alloc::Global;
 
-/// Lists of lanes: of lines or of errands, by their numbers.
+/// Lists of lanes: of lines or of errands, say.
 #[derive(Drop)]
-pub(crate) struct LaneLists {
-    of_lanes: Vec<Vec<u32>>,
+pub struct LaneLists<T> {
+    of_lanes: Vec<Vec<T>>,
 }
 
-impl LaneLists {
+impl<T: Drop> LaneLists<T> {
     /// Empty ones.
-    pub(crate) fn new(alloc: Global) -> LaneLists {
+    pub fn new(alloc: Global) -> LaneLists<T> {
         let of_lanes = Vec::new(alloc);
         LaneLists { of_lanes }
     }
 
     /// One more of the lane.
-    pub(crate) fn add(&mut self, alloc: Global, lane: Lane, number: u32) -> Result<(), NoMemory> {
+    pub fn add(&mut self, alloc: Global, lane: Lane, item: T) -> Result<(), NoMemory> {
         let place = place_of(lane);
         for _lane in self.of_lanes.len()..=place {
             self.of_lanes.push(Vec::new(alloc))?;
         }
-        if let Some(numbers) = self.of_lanes.get_mut(place) {
-            numbers.push(number)?;
+        if let Some(items) = self.of_lanes.get_mut(place) {
+            items.push(item)?;
         }
         Ok(())
     }
 
     /// The list of the lane.
-    pub(crate) fn of(&self, lane: Lane) -> &[u32] {
+    pub fn of(&self, lane: Lane) -> &[T] {
         match self.of_lanes.get(place_of(lane)) {
-            Some(numbers) => numbers.as_slice(),
+            Some(items) => items.as_slice(),
             None => &[],
         }
     }
