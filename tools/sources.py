@@ -163,8 +163,8 @@ def all_items():
 
 # The definitions of a page of specs/.
 
-DEFINITION = re.compile(r"(?:abbrev pub|unfoldable pub|pub record|pub data) +(\S+)")
-Definition = namedtuple("Definition", "path line name has_meaning lines")
+DEFINITION = re.compile(r"(abbrev pub|unfoldable pub|pub record|pub data) +(\S+)")
+Definition = namedtuple("Definition", "path line name is_type has_meaning lines")
 
 
 def definitions_of(crate):
@@ -173,7 +173,8 @@ def definitions_of(crate):
         for number, line in enumerate(text.splitlines(), start=1):
             opens = DEFINITION.match(line)
             if opens:
-                found.append(Definition(path, number, opens[1], before.startswith("--"), []))
+                is_type = opens[2][0].isupper()
+                found.append(Definition(path, number, opens[2], is_type, before.startswith("--"), []))
             if found and not re.match(r"use |(pub )?mod ", line):
                 found[-1].lines.append(re.sub(r"(^|\s)--(\s.*)?$", "", line))
             before = line
@@ -182,6 +183,33 @@ def definitions_of(crate):
 
 def all_definitions():
     return (it for crate in crates() for it in definitions_of(crate))
+
+
+IMPORT = re.compile(r"\bRattle\.(\w+)\.specs\.([\w.]+)\.\{([^}]*)\}")
+
+
+@lru_cache(maxsize=None)
+def imported(text):
+    """What a page of specs/ or a file of code imports: of each name there, the places where its definition may stand, each
+    a page and a name (of a constructor, that of its data)."""
+    found = {}
+    for crate, module, names in IMPORT.findall(text):
+        page = f"crates/{crate}/specs/{module.replace('.', '/')}.antt"
+        outer, _, inner = module.rpartition(".")
+        owner = (f"crates/{crate}/specs/{outer.replace('.', '/')}.antt", inner)
+        for name in names.split(","):
+            own, _, alias = name.strip().partition(" as ")
+            found[alias or own] = [(page, own), owner]
+    return found
+
+
+def named_in(text, page, path):
+    """Of each word of a text in this page: the places where its definition may stand."""
+    words = set(re.findall(r"[\w◌]+|[^\s\w(){}.,]+", text))
+    given = imported(page)
+    infix = {name.strip("◌"): name for name in given if "◌" in name}
+    words |= {infix[word] for word in words if word in infix}
+    return [[*given.get(word, []), (path, word)] for word in words]
 
 
 def edits_of(folder):
