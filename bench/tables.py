@@ -37,8 +37,8 @@ def module_of(path):
 
 
 MAKE = module_of(os.path.join(BENCH, "make"))
-WORST = module_of(os.path.join(os.path.dirname(BENCH), "tools", "worst"))
-LOGS = module_of(os.path.join(os.path.dirname(BENCH), "tools", "run_logs.py"))
+WORST = module_of(os.path.join(os.path.dirname(BENCH), "tools", "trials", "worst"))
+LOGS = module_of(os.path.join(os.path.dirname(BENCH), "tools", "oracles", "run_logs.py"))
 # Rounds of seven_buses and seeds of run_logs.py that make logs of some 100,000 lines, of which nearly none, a third and three
 # fifths are Retries without effect.
 OF_LOGS = [(686, 2), (457, 5), (275, 8)]

@@ -418,26 +418,26 @@ def drawn(place):
 
 def scripts():
     # the commands of README.md and of the guide
-    yield "readme_commands", ["../tools/readme-commands", "README.md", "docs/GUIDE.md"]
+    yield "readme_commands", ["../tools/trials/readme-commands", "README.md", "docs/GUIDE.md"]
     # `safe` beside a second program, over all boards here and some that are drawn, and what `adverse` writes of them
-    yield "safe_by_definitions", ["../tools/safe-by-definitions", "--compare", PROGRAM, "250"]
+    yield "safe_by_definitions", ["../tools/oracles/safe-by-definitions", "--compare", PROGRAM, "250"]
     # the caret below the word at fault, by the fronts of each line that is refused
-    yield "carets", ["../tools/carets"]
+    yield "carets", ["../tools/trials/carets"]
     # arrivals taken out of each run here, and put in again
-    yield "fill_again", ["../tools/fill-again"]
+    yield "fill_again", ["../tools/trials/fill-again"]
     # the monitor of PCI buses in its test bench, where there is a simulator
     if shutil.which("iverilog"):
-        yield "try_monitor", ["../tools/try-monitor"]
+        yield "try_monitor", ["../tools/trials/try-monitor"]
     # faults of the system in turn, disturbed schedules, inputs changed at random and the worst ones, each in a short form
     if shutil.which("cc"):
-        yield "fail_each_call", ["../tools/fail-each-call", "--most", "5"]
-        yield "try_schedules", ["../tools/try-schedules", "--times", "20"]
+        yield "fail_each_call", ["../tools/trials/fail-each-call", "--most", "5"]
+        yield "try_schedules", ["../tools/trials/try-schedules", "--times", "20"]
     else:
         print("rows: no C compiler, so that fail_each_call and try_schedules are left out")
-    yield "fuzz", ["../tools/fuzz", "--seconds", "20"]
-    yield "worst", ["../tools/worst", "--part", "16"]
+    yield "fuzz", ["../tools/trials/fuzz", "--seconds", "20"]
+    yield "worst", ["../tools/trials/worst", "--part", "16"]
     # the Debian package, where there is what makes one, made by somebody whose files nobody else may read
     if shutil.which("dpkg-deb"):
         folder = tempfile.mkdtemp()
-        yield "package", ["bash", "-c", 'umask 077; ../tools/try-deb "$(../tools/make-deb "$0")"', folder]
+        yield "package", ["bash", "-c", 'umask 077; ../tools/trials/try-deb "$(../tools/make-deb "$0")"', folder]
         shutil.rmtree(folder)

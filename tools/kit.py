@@ -34,7 +34,7 @@ def of_kit(name):
 
 
 def change(rtlib):
-    """The two changes, to a Crate that has what they replace and call (tools/try-kit tries them)."""
+    """The two changes, to a Crate that has what they replace and call (tools/checks/try-kit tries them)."""
     lacking = [it for it in ("stamp", "below", "is_built", "build_rlib", "words", "call") if not hasattr(rtlib.Crate, it)]
     if lacking:
         raise AttributeError(f"this kit's Crate has no {', '.join(lacking)}")

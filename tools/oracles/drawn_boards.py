@@ -1,5 +1,5 @@
 """Texts of valid boards, drawn by a random.Random: small ones of up to four buses, in which masters tell one another by
-flags, and ones at limits of boards. For tools/safe-by-definitions.
+flags, and ones at limits of boards. For tools/oracles/safe-by-definitions.
 """
 MEBI, WIDE = 0x100000, 1 << 32
 VALUES = (0, 1, 1, 2, 3, 0x100, 0xFFFFFFFF)

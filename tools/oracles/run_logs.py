@@ -1,4 +1,4 @@
-"""Logs of runs: what could have been seen on the buses while a run went on. For tools/log-of-run and tools/observe-runs.
+"""Logs of runs: what could have been seen on the buses while a run went on. For tools/oracles/log-of-run and tools/trials/observe-runs.
 
 Each act of the run is a transaction, an arrival is none. Beside them a log has Retries that have no effect: a master asks again
 for what it waits for, and a lane for what it holds. Each transaction takes effect at one moment between its two times, and the
