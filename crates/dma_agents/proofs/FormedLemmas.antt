@@ -37,7 +37,7 @@ use Rattle.dma_agents.proofs.StepLemmas.{OnDraft, Keeps, line_may, line_keeps, O
 -- What a line gives.
 
 -- a poll is tried at least once, and a put has a byte
-is_formed_line : DeviceLine → Bool
+pub is_formed_line : DeviceLine → Bool
 is_formed_line (Device name target bell) = is_within 1 65536 bell.tries
 is_formed_line (Handler name bus wait) = is_within 1 65536 wait.tries
 is_formed_line (Puts put) = nat_le 1 put.length
@@ -47,7 +47,7 @@ is_formed_line (Looks address) = true
 is_formed_line (Waits flag) = is_within 1 65536 flag.tries
 is_formed_line (Writes address value) = true
 
-abbrev IsFormedLine : DeviceLine → Type 0
+abbrev pub IsFormedLine : DeviceLine → Type 0
 IsFormedLine line = is_formed_line line ≡ true
 
 abbrev Any : {A : Type 0} → A → Type 0
@@ -158,7 +158,7 @@ behind_yields word =
     chosen (bytes_eq word (codes "wait")) wait_form _ wait_yields (
     chosen (bytes_eq word (codes "word")) word_form _ word_yields (refused LineFault.WrongWord))))))))
 
-line_formed : (words : List (List ℕ)) (line : DeviceLine) → device_line words ≡ Ok line → IsFormedLine line
+pub line_formed : (words : List (List ℕ)) (line : DeviceLine) → device_line words ≡ Ok line → IsFormedLine line
 unfolding device_line
 line_formed words line h =
     let reader = yields-bind (one_word (λ word. Ok word)) form_behind Any IsFormedLine (yields-any (one_word (λ word. Ok word))) (λ word _. behind_yields word) in
