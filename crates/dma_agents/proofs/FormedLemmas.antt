@@ -28,6 +28,7 @@ use Rattle.dma_agents.specs.declared.line.DeviceLine.{DeviceLine}
 use Rattle.dma_agents.specs.declared.line.DeviceLine.TheVariants.{Device, Handler, Puts, Gets, Sends, Looks, Waits, Writes}
 use Rattle.dma_agents.specs.declared.line.DeviceOwner.TheVariants.{Nobody}
 use Rattle.dma_agents.specs.declared.making.Making.{Making}
+use Rattle.dma_agents.specs.declared.put.Put.{Put}
 use Rattle.dma_agents.specs.DeviceLines.{name_in, flag_form, device_form, handler_form, seeded, put_form, get_form, look_form, sent, send_form, wait_form, word_form, form_behind, device_line}
 use Rattle.dma_agents.specs.Adding.{line_added}
 use Rattle.dma_agents.specs.Made.{is_line, with_draft, lines_read, unclear, Made, by_flags, by_lines, by_board, until_devices, by_parts, by_first, made_read, board_in}
@@ -37,7 +38,7 @@ use Rattle.dma_agents.proofs.StepLemmas.{OnDraft, Keeps, line_may, line_keeps, O
 -- What a line gives.
 
 -- a poll is tried at least once, and a put has a byte
-pub is_formed_line : DeviceLine → Bool
+is_formed_line : DeviceLine → Bool
 is_formed_line (Device name target bell) = is_within 1 65536 bell.tries
 is_formed_line (Handler name bus wait) = is_within 1 65536 wait.tries
 is_formed_line (Puts put) = nat_le 1 put.length
@@ -47,7 +48,7 @@ is_formed_line (Looks address) = true
 is_formed_line (Waits flag) = is_within 1 65536 flag.tries
 is_formed_line (Writes address value) = true
 
-abbrev pub IsFormedLine : DeviceLine → Type 0
+abbrev IsFormedLine : DeviceLine → Type 0
 IsFormedLine line = is_formed_line line ≡ true
 
 abbrev Any : {A : Type 0} → A → Type 0
@@ -158,11 +159,16 @@ behind_yields word =
     chosen (bytes_eq word (codes "wait")) wait_form _ wait_yields (
     chosen (bytes_eq word (codes "word")) word_form _ word_yields (refused LineFault.WrongWord))))))))
 
-pub line_formed : (words : List (List ℕ)) (line : DeviceLine) → device_line words ≡ Ok line → IsFormedLine line
+line_formed : (words : List (List ℕ)) (line : DeviceLine) → device_line words ≡ Ok line → IsFormedLine line
 unfolding device_line
 line_formed words line h =
     let reader = yields-bind (one_word (λ word. Ok word)) form_behind Any IsFormedLine (yields-any (one_word (λ word. Ok word))) (λ word _. behind_yields word) in
     yields-whole _ IsFormedLine (reader.at words) line h
+
+-- a put has a byte
+pub put_long : (words : List (List ℕ)) (put : Put) → device_line words ≡ Ok (Puts put) → nat_le 1 put.length ≡ true
+unfolding is_formed_line
+put_long words put is = line_formed words (Puts put) is
 
 -- What it adds keeps the draft sound.
 

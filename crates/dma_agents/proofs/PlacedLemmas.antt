@@ -1,5 +1,5 @@
 -- The writes of a put stand in the program of a master.
-use Rattle.std.proofs.Common.{◌≡◌, ◌⊎◌, inl, inr, ⊥, ℕ, zero, suc, ◌+◌, ◌<◌, ◌≤◌, Bool, true, false, cond, not, List, [], ◌∷◌, ◌++◌, length, slice_index_or, flat_map, Option, Some, None, Result, Ok, Err, refl, sym, ap, subst, ◌∙◌, arith, append_assoc, append-nil, nat_le}
+use Rattle.std.proofs.Common.{◌≡◌, ◌⊎◌, inl, inr, ℕ, zero, suc, ◌+◌, ◌<◌, ◌≤◌, Bool, true, false, cond, not, List, [], ◌∷◌, ◌++◌, length, slice_index_or, flat_map, Option, Some, None, Result, Ok, Err, refl, sym, ap, subst, ◌∙◌, arith, append_assoc, append-nil, nat_le}
 use Rattle.std.specs.Prelude.{Contains}
 use Rattle.std.specs.List.{list_all, Any}
 use Rattle.std.proofs.lemmas.Bool.Decides.{nat_tests}
@@ -28,7 +28,7 @@ use Rattle.dma_agents.specs.Adding.{stands, is_placed, limited, then_adds, add_o
 use Rattle.dma_agents.specs.Made.{Made, with_draft, made_read}
 use Rattle.dma_agents.specs.Said.{HasPut, IsPut, device_lines}
 use Rattle.dma_agents.proofs.PutLemmas.{put_bytes}
-use Rattle.dma_agents.proofs.FormedLemmas.{is_formed_line, IsFormedLine, line_formed}
+use Rattle.dma_agents.proofs.FormedLemmas.{put_long}
 use Rattle.dma_agents.proofs.StepLemmas.{OnDraft, Keeps, line_may, line_keeps, OnMaking, LinesKeep}
 use Rattle.dma_agents.proofs.ToldLemmas.{Among, Starts, Gives, text_told}
 
@@ -38,8 +38,9 @@ among_any : {X : Type 0} (P : X → Type 0) (xs : List X) → Among P xs → Any
 among_any P [] among = absurd among
 among_any P (x ∷ xs) among =
     elim among [
-      | inl here ↦ (0, (x, (omega arith, (refl, here))))
-      | inr more ↦ let found = among_any P xs more in (suc found.0, (found.1.0, (let within = found.1.1.0 in omega (arith, within), (found.1.1.1.0, found.1.1.1.1))))
+      | inl here ↦ (0, x, omega arith, refl, here)
+      | inr more ↦ let found = among_any P xs more in
+          let within = found.2 in (suc found.0, found.1, omega (arith, within), found.3, found.4)
     ]
 
 among_more : {X : Type 0} (P : X → Type 0) (xs : List X) (y : X) → Among P xs → Among P (xs ++ y ∷ [])
@@ -194,8 +195,7 @@ ops_put put (op ∷ ops) draft some bytes =
     ops_more next (op ∷ []) ops (one_begins draft next op (limited-ok (does draft op false) next is))))
 
 long_put : (put : Put) (words : List (List ℕ)) → device_line words ≡ Ok (Puts put) → 1 ≤ put.length
-unfolding is_formed_line
-long_put put words is = let some : nat_le 1 put.length ≡ true = line_formed words (Puts put) is in grind (arith, nat_tests)
+long_put put words is = let some : nat_le 1 put.length ≡ true = put_long words put is in grind (arith, nat_tests)
 
 put_starts : (put : Put) → Starts (OnMade put) (Puts put)
 put_starts put = λ making number words is.

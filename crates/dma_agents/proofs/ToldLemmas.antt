@@ -1,5 +1,5 @@
 -- What a line of devices says is kept up to the end of the text.
-use Rattle.std.proofs.Common.{◌≡◌, ◌⊎◌, inl, inr, ⊥, ℕ, zero, suc, ◌+◌, ◌<◌, Bool, true, false, ◌&&◌, cond, nat_lt, List, [], ◌∷◌, ◌++◌, length, slice_index_or, drop, Option, Some, None, Result, Ok, Err, refl, sym, ap, subst, ◌∙◌, arith, codes}
+use Rattle.std.proofs.Common.{◌≡◌, ◌⊎◌, inl, inr, ℕ, zero, suc, ◌+◌, ◌<◌, Bool, true, false, ◌&&◌, cond, nat_lt, List, [], ◌∷◌, ◌++◌, length, slice_index_or, drop, Option, Some, None, Result, Ok, Err, refl, sym, ap, subst, ◌∙◌, arith, codes}
 use Rattle.std.specs.Prelude.{Contains}
 use Rattle.std.specs.List.{list_all}
 use Rattle.board_model.specs.declared.board.Board.{Board}
@@ -40,7 +40,7 @@ place_among (y ∷ xs) zero x within is = inl is
 place_among (y ∷ xs) (suc k) x within is = inr (place_among xs k x (omega (arith, within)) is)
 
 contained : {X : Type 0} (xs : List X) (x : X) → Contains xs x → Among (λ y. y ≡ x) xs
-contained xs x there = place_among xs there.0 x there.1.0 there.1.1
+contained xs x there = place_among xs there.0 x there.1 there.2
 
 -- One line.
 
