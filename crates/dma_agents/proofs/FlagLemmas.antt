@@ -97,7 +97,7 @@ writes_clear clear put zero block = refl
 writes_clear clear put (suc more) block = writes_clear clear put more (block + 1)
 
 -- the flag of a line, where it has one
-abbrev flag_clear : (ℕ → ℕ → Bool) → Option Flag → Bool
+abbrev pub flag_clear : (ℕ → ℕ → Bool) → Option Flag → Bool
 flag_clear clear None = true
 flag_clear clear (Some flag) = clear flag.address flag.value
 
@@ -111,7 +111,7 @@ line_clear clear (Looks address) one = refl
 line_clear clear (Waits flag) one = one
 line_clear clear (Writes address value) one = refl
 
-waits_clear : (clear : ℕ → ℕ → Bool) (waits : List Waiting) (number : ℕ) (flag : Option Flag) → list_all (wait_clear clear) (waits_behind waits number flag) ≡ true → (list_all (wait_clear clear) waits ≡ true) × (flag_clear clear flag ≡ true)
+pub waits_clear : (clear : ℕ → ℕ → Bool) (waits : List Waiting) (number : ℕ) (flag : Option Flag) → list_all (wait_clear clear) (waits_behind waits number flag) ≡ true → (list_all (wait_clear clear) waits ≡ true) × (flag_clear clear flag ≡ true)
 waits_clear clear waits number None all = (all, refl)
 waits_clear clear waits number (Some flag) all =
     let wait : Waiting = record { line = number; flag = flag } in

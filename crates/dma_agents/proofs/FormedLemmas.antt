@@ -28,6 +28,7 @@ use Rattle.dma_agents.specs.declared.line.DeviceLine.{DeviceLine}
 use Rattle.dma_agents.specs.declared.line.DeviceLine.TheVariants.{Device, Handler, Puts, Gets, Sends, Looks, Waits, Writes}
 use Rattle.dma_agents.specs.declared.line.DeviceOwner.TheVariants.{Nobody}
 use Rattle.dma_agents.specs.declared.making.Making.{Making}
+use Rattle.dma_agents.specs.declared.put.Put.{Put}
 use Rattle.dma_agents.specs.DeviceLines.{name_in, flag_form, device_form, handler_form, seeded, put_form, get_form, look_form, sent, send_form, wait_form, word_form, form_behind, device_line}
 use Rattle.dma_agents.specs.Adding.{line_added}
 use Rattle.dma_agents.specs.Made.{is_line, with_draft, lines_read, unclear, Made, by_flags, by_lines, by_board, until_devices, by_parts, by_first, made_read, board_in}
@@ -163,6 +164,11 @@ unfolding device_line
 line_formed words line h =
     let reader = yields-bind (one_word (λ word. Ok word)) form_behind Any IsFormedLine (yields-any (one_word (λ word. Ok word))) (λ word _. behind_yields word) in
     yields-whole _ IsFormedLine (reader.at words) line h
+
+-- a put has a byte
+pub put_long : (words : List (List ℕ)) (put : Put) → device_line words ≡ Ok (Puts put) → nat_le 1 put.length ≡ true
+unfolding is_formed_line
+put_long words put is = line_formed words (Puts put) is
 
 -- What it adds keeps the draft sound.
 

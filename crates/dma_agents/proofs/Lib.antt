@@ -10,3 +10,5 @@ pub mod StepLemmas
 pub mod FlagLemmas
 pub mod UnclearLemmas
 pub mod WrittenLemmas
+pub mod ToldLemmas
+pub mod PlacedLemmas

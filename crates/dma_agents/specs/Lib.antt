@@ -5,5 +5,6 @@ pub mod Unclear
 pub mod Written
 pub mod Made
 pub mod Parts
+pub mod Said
 pub mod Worked
 pub mod messages

@@ -1,4 +1,4 @@
-ghost use Rattle.std.specs.Prelude.{◌≡◌, ◌≤◌, ◌<◌, ◌+◌, ◌^◌, ℕ, [], ◌∷◌, flat_map, List, true};
+ghost use Rattle.std.specs.Prelude.{◌≡◌, ◌≤◌, ◌<◌, ◌+◌, ◌^◌, ℕ, [], ◌∷◌, flat_map, List, true, Contains};
 ghost use Rattle.std.specs.List.{list_all};
 ghost use Rattle.pci_command.specs.declared.command.Command.TheVariants.{MemWrite};
 ghost use Rattle.pci_command.specs.declared.phases.Phase.{Phase};
@@ -14,7 +14,11 @@ ghost use Rattle.history_model.specs.Clear.{is_clear};
 ghost use Rattle.history_model.specs.Runs.{Run, Complete, history_of};
 ghost use Rattle.dma_agents.specs.Worked.{worked_text, twice_text, twice_fault, worked_made};
 ghost use Rattle.dma_agents.specs.Worked.{worked_board, worked_events};
-ghost use Rattle.dma_agents.specs.Made.{Made, board_in, made_read};
+ghost use Rattle.dma_agents.specs.Made.{Made, board_in, made_read, flag_of};
+ghost use Rattle.dma_agents.specs.Said.{IsPut, device_lines};
+ghost use Rattle.dma_agents.specs.declared.line.Flag.{Flag};
+ghost use Rattle.dma_agents.specs.declared.line.DeviceLine.{DeviceLine};
+ghost use Rattle.dma_agents.specs.declared.line.DeviceLine.TheVariants.{Puts};
 ghost use Rattle.dma_agents.specs.declared.put.Put.{Put};
 ghost use Rattle.dma_agents.specs.Put.{cut, bytes_of, bytes_put};
 
@@ -46,6 +50,22 @@ pub fn made_flags_are_clear()
         made_read text ≡ Ok made → made.first ≤ p.master →
         op_of made.board p ≡ Some (Poll Mem address 0xffff_ffff value tries) →
         is_clear made.board address value ≡ true }
+{}
+
+/// Each flag that a line of the text waits for, at the head of a device or handler or as a `wait`, is
+/// clear on the board that is made of it.
+pub fn waited_flags_are_clear()
+    ensures { (text : List ℕ) (made : Made) (line : DeviceLine) (flag : Flag) →
+        made_read text ≡ Ok made → Contains (device_lines text) line →
+        flag_of line ≡ Some flag → is_clear made.board flag.address flag.value ≡ true }
+{}
+
+/// On the board that is made of a text a master has the writes of each `put` line, one after
+/// another: their enabled bytes are those of the put, each once and in order.
+pub fn puts_stand_on_the_board()
+    ensures { (text : List ℕ) (made : Made) (put : Put) →
+        made_read text ≡ Ok made → Contains (device_lines text) (Puts put) →
+        IsPut made.board put }
 {}
 
 /// A doorbell, a put and a message on one bus.

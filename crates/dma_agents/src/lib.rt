@@ -20,7 +20,8 @@ mod written;
 
 pub use fault::MakeFault;
 pub use laws::{
-    made_boards_are_well_formed, made_flags_are_clear, put_is_written_once, worked, worked_devices,
+    made_boards_are_well_formed, made_flags_are_clear, put_is_written_once,
+    puts_stand_on_the_board, waited_flags_are_clear, worked, worked_devices,
 };
 pub use line::Flag;
 pub(crate) use line::{DeviceLine, DeviceOwner, Waiting};
