@@ -2,11 +2,10 @@ ghost use Rattle.std.specs.Prelude.{◌≡◌, ◌<◌, ◌^◌, Ok, Err, IfOk, 
 ghost use Rattle.pcitree.specs.Answers.{AnswersTo, Refuses};
 ghost use Rattle.pcitree.specs.Given.{IsGiven};
 
-use crate::called::Called;
 use crate::words::{operation_in, operations_in, rows_in};
 use command_runs::Gate;
 use program_status::{Answered, Status};
-use program_words::Form;
+use program_words::{Called, Form};
 use std::alloc::Global;
 use std::thread::Threads;
 
@@ -56,7 +55,7 @@ pub(crate) fn answer<R: Threads + Sync, G: Gate + Sync>(
     }
 }
 
-/// The same of an input that was read for it: where the form lets it go, that is as soon as it is read.
+/// The same of an input that was read for it, which is let go as soon as its form has no need of it.
 pub(crate) fn answer_owned<R: Threads + Sync, G: Gate + Sync>(
     rt: &R,
     alloc: Global,

@@ -2,15 +2,14 @@
 #![tactic(auto)]
 
 mod answering;
-mod called;
 mod program;
 mod surely;
 mod words;
 
-pub use called::Called;
 pub use command_observe::{Retelling, faulty_word, retell};
 pub use command_runs::{Gate, NoGate};
 pub use program::pcitree;
 pub use program_status::{BoardFault, Status};
+pub use program_words::Called;
 pub use surely::pcitree_surely;
 pub use words::{file_word, form_of, input_limit};

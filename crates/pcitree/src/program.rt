@@ -10,14 +10,13 @@ ghost use Rattle.pcitree.specs.Stops.{StopsAnswering, StopsServing, StopsRunning
 ghost use Rattle.program_words.specs.Shapes.{parts_of};
 
 use crate::answering::{answer, answer_owned};
-use crate::called::Called;
 use crate::words::{form_of, misfit, number_of};
 use command_runs::{
     Gate, finished_traces_are_complete, written_devices_are_complete, written_runs_are_complete,
 };
 use io_ports::{ReadError, Sink, Source, read_all, write_all};
 use program_status::{Answered, Status};
-use program_words::Form;
+use program_words::{Called, Form};
 use std::alloc::Global;
 use std::thread::Threads;
 
@@ -35,8 +34,7 @@ pub fn pcitree<R: Threads + Sync, S: Source, K: Sink, G: Gate + Sync>(
 ) -> Status
     // Usage, exactly where the words are of no form. Then nothing was read.
     ensures usage { IsUsage result ↔ (form_of words.now ≡ None) }
-    ensures misfit { (word : ℕ) → result ≡ Status.Usage word
-        → word ≡ misfit words.now }
+    ensures misfit { (word : ℕ) → result ≡ Status.Usage word → word ≡ misfit words.now }
     ensures unread { IsUsage result → source.new ≡ source.old }
     // Where a number among the words is the input, the source is not read.
     ensures unasked { (form : WordForm) → form_of words.now ≡ Some form
@@ -53,22 +51,25 @@ pub fn pcitree<R: Threads + Sync, S: Source, K: Sink, G: Gate + Sync>(
     // `ToldTo` of `observe --acts`.
     ensures unwritten { IsBeforeWriting result → sink.new ≡ sink.old }
     ensures front { result ≡ Status.WriteFault → IfSome (form_of words.now) (λ form.
-        StopsInText form words.now (given form words.now (S.held source.old)) (left form words.now (S.held source.new))
-        (K.taken sink.old) (K.taken sink.new)) }
+        StopsInText form words.now (given form words.now (S.held source.old))
+        (left form words.now (S.held source.new)) (K.taken sink.old) (K.taken sink.new)) }
     ensures done { IsSuccess result → IfSome (form_of words.now) (λ form.
-        Finishes form words.now (given form words.now (S.held source.old)) (left form words.now (S.held source.new))
-        (K.taken sink.old) (K.taken sink.new) result) }
-    // What `run`, `finish`, `devices` or `adverse` wrote is the text of a complete run, as `check` wants it.
+        Finishes form words.now (given form words.now (S.held source.old))
+        (left form words.now (S.held source.new)) (K.taken sink.old) (K.taken sink.new) result) }
+    // What `run`, `finish`, `devices` or `adverse` wrote is a complete run, as `check` wants it.
     ensures checked { (form : WordForm) → result ≡ Status.Done → form_of words.now ≡ Some form
         → writes_run form ≡ true → WritesRun (K.taken sink.old) (K.taken sink.new) }
     ensures refused { IsRefusal result → IfSome (form_of words.now) (λ form.
-        RefusesInput form words.now (given form words.now (S.held source.old)) (left form words.now (S.held source.new)) result) }
+        RefusesInput form words.now (given form words.now (S.held source.old))
+        (left form words.now (S.held source.new)) result) }
     // Where the source tells what it holds, each answer has its cause in that, and an input that is
     // served is answered, unless a port fails or there is no memory.
     ensures cause { (form : WordForm) (input : List ℕ) → form_of words.now ≡ Some form
-        → given form words.now (S.held source.old) ≡ Some input → Causes form words.now input result }
+        → given form words.now (S.held source.old) ≡ Some input
+        → Causes form words.now input result }
     ensures served { (form : WordForm) (input : List ℕ) → form_of words.now ≡ Some form
-        → given form words.now (S.held source.old) ≡ Some input → IsServed form words.now input → Serves result }
+        → given form words.now (S.held source.old) ≡ Some input
+        → IsServed form words.now input → Serves result }
 {
     written_runs_are_complete();
     finished_traces_are_complete();
@@ -88,8 +89,9 @@ fn run<R: Threads + Sync, S: Source, K: Sink, G: Gate + Sync>(
     gate: &G,
 ) -> Result<Status, Status>
     ensures form { OnOk result (IsSome (form_of words.now)) }
-    ensures done { IfOk result (λ ending. IfSome (form_of words.now) (λ form. Finishes form words.now
-        (given form words.now (S.held source.old)) (left form words.now (S.held source.new)) (K.taken sink.old) (K.taken sink.new) ending)) }
+    ensures done { IfOk result (λ ending. IfSome (form_of words.now) (λ form.
+        Finishes form words.now (given form words.now (S.held source.old))
+        (left form words.now (S.held source.new)) (K.taken sink.old) (K.taken sink.new) ending)) }
     ensures clean { OnOk result ((S.faults source.new ≡ S.faults source.old) ×
         (K.faults sink.new ≡ K.faults sink.old)) }
     ensures misfit { (word : ℕ) → result ≡ Err (Status.Usage word) → word ≡ misfit words.now }
@@ -117,8 +119,8 @@ fn serve<R: Threads + Sync, S: Source, K: Sink, G: Gate + Sync>(
     gate: &G,
 ) -> Result<Status, Status>
     requires { is_of (parts_of form) [] words.now ≡ true }
-    ensures done { IfOk result (Finishes form words.now
-        (given form words.now (S.held source.old)) (left form words.now (S.held source.new)) (K.taken sink.old) (K.taken sink.new)) }
+    ensures done { IfOk result (Finishes form words.now (given form words.now (S.held source.old))
+        (left form words.now (S.held source.new)) (K.taken sink.old) (K.taken sink.new)) }
     ensures clean { OnOk result ((S.faults source.new ≡ S.faults source.old) ×
         (K.faults sink.new ≡ K.faults sink.old)) }
     ensures stopped { IfErr result (StopsServing S K S.held S.faults K.taken K.faults
@@ -143,13 +145,11 @@ fn answer_of<R: Threads + Sync, S: Source, G: Gate + Sync>(
 ) -> Result<Answered, Status>
     requires { is_of (parts_of form) [] words.now ≡ true }
     ensures ok { IfOk result (λ answer. AnswersInput form words.now
-        (given form words.now (S.held source.old))
-        (left form words.now (S.held source.new))
+        (given form words.now (S.held source.old)) (left form words.now (S.held source.new))
         answer.text.items answer.ending) }
     ensures clean { OnOk result (S.faults source.new ≡ S.faults source.old) }
     ensures stopped { IfErr result (StopsAnswering form words.now
-        (given form words.now (S.held source.old))
-        (left form words.now (S.held source.new))
+        (given form words.now (S.held source.old)) (left form words.now (S.held source.new))
         (S.faults source.old) (S.faults source.new)) }
     ensures unasked { IsSome (number_of form words.now) → source.new ≡ source.old }
 {
@@ -169,7 +169,8 @@ fn read_and_answer<R: Threads + Sync, S: Source, G: Gate + Sync>(
     gate: &G,
 ) -> Result<Answered, Status>
     requires { reads_file form ≡ true }
-    ensures ok { IfOk result (λ answer. AnswersInput form words.now (S.held source.old) (S.held source.new) answer.text.items answer.ending) }
+    ensures ok { IfOk result (λ answer. AnswersInput form words.now
+        (S.held source.old) (S.held source.new) answer.text.items answer.ending) }
     ensures clean { OnOk result (S.faults source.new ≡ S.faults source.old) }
     ensures stopped { IfErr result (StopsAnswering form words.now
         (S.held source.old) (S.held source.new) (S.faults source.old) (S.faults source.new)) }
@@ -188,7 +189,8 @@ fn read_and_answer<R: Threads + Sync, S: Source, G: Gate + Sync>(
 
 /// Reads an input to its end.
 fn read_input<S: Source>(alloc: Global, form: Form, source: &mut S) -> Result<Vec<u8>, Status>
-    ensures ok { IfOk result (λ input. ReadsInput form (S.held source.old) (S.held source.new) input.items) }
+    ensures ok { IfOk result (λ input.
+        ReadsInput form (S.held source.old) (S.held source.new) input.items) }
     ensures clean { OnOk result (S.faults source.new ≡ S.faults source.old) }
     ensures stopped { (words : List (List ℕ)) → IfErr result (StopsAnswering form words
         (S.held source.old) (S.held source.new) (S.faults source.old) (S.faults source.new)) }

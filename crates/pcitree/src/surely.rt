@@ -4,11 +4,11 @@ ghost use Rattle.pcitree.specs.Words.{form_of};
 ghost use Rattle.pcitree.specs.Given.{given};
 ghost use Rattle.pcitree.specs.Answers.{IsServed, IsAnswered, Causes};
 
-use crate::called::Called;
 use crate::program::pcitree;
 use command_runs::Gate;
 use io_ports::{SureSink, SureSource};
 use program_status::Status;
+use program_words::Called;
 use std::alloc::Global;
 use std::thread::Threads;
 

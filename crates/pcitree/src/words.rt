@@ -4,11 +4,10 @@ ghost use Rattle.program_words.specs.Shapes.{shape_of, input_limit};
 ghost use Rattle.pcitree.specs.Words.{names_file, fits, fitting, is_of, form_of, misfit, is_file, is_number, file_in, file_place, limit_by, rows_in, operation_in, read_in, write_in};
 ghost use Rattle.pcitree.specs.Given.{number_in, number_of};
 
-use crate::called::Called;
 use command_runs::names_rounds;
 use command_traces::{Rows, names_event, rows_of};
 use judge_adverse::names_operation;
-use program_words::{FORMS, Form, Part};
+use program_words::{Called, FORMS, Form, Part};
 
 /// Whether the word, behind another, is as the part has it.
 fn fits(part: Part, before: &str, word: &str) -> bool

@@ -64,14 +64,14 @@ fn misfit(rt: &HostRuntime, words: &[String], word: u32) -> Status {
 /// that answers it. What it starts threads by is the runtime too.
 fn run<R: Threads + Sync>(rt: &HostRuntime, threads: &R, words: &[String]) -> Status {
     let name = file_name(words);
-    let called = Called::new(words);
+    let call = Called::new(words);
     let (file, reason) = open(rt, name);
     // an input is let go once it is read, where it can be read again, as no pipe can
     let is_file = |file: &File| file.metadata().is_ok_and(|data| data.is_file());
-    let lets_go = form_of(&called).is_some_and(|form| form.row().lets_go);
+    let lets_go = form_of(&call).is_some_and(|form| form.row().lets_go);
     let can_let_go = lets_go && file.as_ref().is_some_and(is_file);
     let mut port = ReadPort::new(file);
-    let Ok(mut source) = HeldSource::read_ahead(rt.alloc(), &mut port, input_limit(&called) + 1)
+    let Ok(mut source) = HeldSource::read_ahead(rt.alloc(), &mut port, input_limit(&call) + 1)
     else {
         return status_only(rt, Status::NoMemory);
     };
@@ -80,14 +80,7 @@ fn run<R: Threads + Sync>(rt: &HostRuntime, threads: &R, words: &[String]) -> St
     }
     let reason = reason.or(port.reason());
     let mut sink = WritePort::new(rt.stdout());
-    let status = pcitree(
-        threads,
-        rt.alloc(),
-        &called,
-        &mut source,
-        &mut sink,
-        &NoGate,
-    );
+    let status = pcitree(threads, rt.alloc(), &call, &mut source, &mut sink, &NoGate);
     if status != Status::Done {
         let reason = reason.or(sink.reason());
         let source = again(rt, words, name, source);

@@ -65,8 +65,5 @@ fn message_of(
 
 /// As what the words have their input read.
 fn reads_of(words: &[String]) -> Reads {
-    match form_of(&Called::new(words)) {
-        Some(form) => form.row().reads,
-        None => Reads::Protocol,
-    }
+    form_of(&Called::new(words)).map_or(Reads::Protocol, |form| form.row().reads)
 }

@@ -1,12 +1,14 @@
-//! The table of words: each form in which the program is called, how long its input may be, and
-//! what the help says of it.
+//! The table of words: each form in which the program is called, as what its input is read, how
+//! long that may be, and what the help says of it.
 #![tactic(auto)]
 
 ghost use Rattle.std.specs.Prelude.{◌≡◌, ◌≤◌, ◌<◌, ◌^◌, map, length};
 ghost use Rattle.program_words.specs.Shapes.{shape_of, shown_as, parts_of, input_limit, lets_go};
 
+mod called;
 mod help;
 
+pub use called::Called;
 pub use help::{Help, OWN_WORDS, UsageHelp, VERSION, WordHelp, usage_help, word_help};
 use history_model::Rule;
 
