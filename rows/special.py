@@ -59,7 +59,8 @@ def board_of_the_limit(place):
     large = place.file("large", filled(text, "master cpu on 0", 1 << 20))
     yield "board_of_the_limit", place.call("run", "--steady", large), Wanted(0, place.read("boards/one_word.trace"), "-")
     large = place.file("large", filled(text, "master cpu on 0", (1 << 20) + 1))
-    for name, words in ("board_past_the_limit", ["run", "--steady"]), ("safe_of_a_board_past_the_limit", ["safe"]):
+    past = {"board_past_the_limit": ["run", "--steady"], "safe_of_a_board_past_the_limit": ["safe"], "lspci_past_the_limit": ["import"]}
+    for name, words in past.items():
         yield name, place.call(*words, large), Wanted(5, b"", "pcitree: input too long")
     large = place.file("large", filled(place.read("../boards/early.board"), "master nic on 1", 1 << 20))
     wanted = Wanted(10, place.read("safe/early.safe"), "pcitree: 1 unsafe, 0 lost, 0 vain")

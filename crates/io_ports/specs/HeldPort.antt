@@ -27,14 +27,16 @@ pub record IsReadAhead (held left : Option (List ℕ)) (before now most : ℕ) (
   pub within : length source.rest ≤ most
   pub at_end : source.fails ≡ false → length source.rest < most → IsAtEnd left
   pub failed : source.fails ≡ true → Rose before now
+  pub clean : source.fails ≡ false → now ≡ before
   pub whole : source.bytes ≡ source.rest
   pub faultless : source.faults ≡ 0
 
--- the next so many bytes were put behind those read before; none only at the end, and where no number is told there
--- was a fault
+-- the next so many bytes were put behind those read before; none only at the end, and just where no number is told
+-- there was a fault
 pub record ReadsOn (held left : Option (List ℕ)) (before now : ℕ) (old new : List ℕ) (count : Option ℕ) : Type 0 where
   pub piece : List ℕ
   pub read : Consumes held left piece
   pub behind : new ≡ old ++ piece
   pub long : IfSome count (λ n. length piece ≡ n)
   pub at_end : MatchOption count (Rose before now) (λ n. n ≡ 0 → IsAtEnd left)
+  pub clean : IfSome count (λ _. now ≡ before)

@@ -99,7 +99,7 @@ impl HeldSource {
 
 impl Source for HeldSource {
     ghost use Rattle.std.specs.Prelude.{Some, true, [], ◌≡◌, ◌≤◌, ◌↔◌, min, length, take, IfOk};
-    ghost use Rattle.std.specs.Prelude.{IsErr, OnErr, IfSome, is_some, not, ◌&&◌};
+    ghost use Rattle.std.specs.Prelude.{IsErr, OnOk, OnErr, IfSome, is_some, not, ◌&&◌};
     ghost use Rattle.std.specs.Io.{ReadsAtMost};
     ghost use Rattle.std.specs.Io.KnownBytes.{ReadConsumes};
     ghost use Rattle.io_ports.specs.Faults.{Rose};
@@ -115,6 +115,7 @@ impl Source for HeldSource {
         ensures bound { ReadsAtMost result buf.new }
         ensures bytes { ReadConsumes (Some self.old.rest) (Some self.new.rest) result buf.new }
         ensures counted { self.old.faults ≤ self.new.faults }
+        ensures clean { OnOk result (self.new.faults ≡ self.old.faults) }
         ensures failed { OnErr result (Rose self.old.faults self.new.faults) }
 
         // Where the reading failed each call at the end fails. Each other call gives as much as it
@@ -148,7 +149,7 @@ impl Source for HeldSource {
 
     fn end(&mut self)
         ensures ends { not self.old.fails && not self.old.gives ≡ true → Some self.new.rest ≡ Some [] }
-        ensures counted { self.old.faults ≤ self.new.faults }
+        ensures clean { self.new.faults ≡ self.old.faults }
     {
         self.given = self.bytes.as_slice().len();
     }

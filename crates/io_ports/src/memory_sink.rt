@@ -76,7 +76,7 @@ impl MemorySink {
 }
 
 impl Sink for MemorySink {
-    ghost use Rattle.std.specs.Prelude.{Some, ◌≡◌, ◌≤◌, ◌↔◌, ◌⊎◌, IfOk, IsErr, OnErr};
+    ghost use Rattle.std.specs.Prelude.{Some, ◌≡◌, ◌≤◌, ◌↔◌, ◌⊎◌, IfOk, IsErr, OnOk, OnErr};
     ghost use Rattle.std.specs.Io.{WritesAtMost};
     ghost use Rattle.std.specs.Io.KnownBytes.{WriteAppends};
     ghost use Rattle.io_ports.specs.Faults.{Rose};
@@ -92,6 +92,7 @@ impl Sink for MemorySink {
         ensures bytes { WriteAppends (Some self.old.taken) (Some self.new.taken) result piece.now }
         ensures some { TakesSome result piece.now }
         ensures counted { self.old.faults ≤ self.new.faults }
+        ensures clean { OnOk result (self.new.faults ≡ self.old.faults) }
         ensures failed { OnErr result (Rose self.old.faults self.new.faults) }
 
         // The calls that are listed fail, and those that find no room. Each other call takes as

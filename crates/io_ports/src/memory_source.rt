@@ -55,7 +55,7 @@ impl MemorySource {
 }
 
 impl Source for MemorySource {
-    ghost use Rattle.std.specs.Prelude.{Some, ◌≡◌, ◌≤◌, ◌↔◌, take, IfOk, IsErr, OnErr};
+    ghost use Rattle.std.specs.Prelude.{Some, ◌≡◌, ◌≤◌, ◌↔◌, take, IfOk, IsErr, OnOk, OnErr};
     ghost use Rattle.std.specs.Prelude.{true, false, [], IfSome, is_some};
     ghost use Rattle.std.specs.Io.{ReadsAtMost};
     ghost use Rattle.std.specs.Io.KnownBytes.{ReadConsumes};
@@ -72,6 +72,7 @@ impl Source for MemorySource {
         ensures bound { ReadsAtMost result buf.new }
         ensures bytes { ReadConsumes (Some self.old.rest) (Some self.new.rest) result buf.new }
         ensures counted { self.old.faults ≤ self.new.faults }
+        ensures clean { OnOk result (self.new.faults ≡ self.old.faults) }
         ensures failed { OnErr result (Rose self.old.faults self.new.faults) }
 
         // The calls that are listed fail, and each other call gives as much as it can.
@@ -101,7 +102,7 @@ impl Source for MemorySource {
 
     fn end(&mut self)
         ensures ends { false ≡ true → Some self.new.rest ≡ Some [] }
-        ensures counted { self.old.faults ≤ self.new.faults }
+        ensures clean { self.new.faults ≡ self.old.faults }
     {}
 
     fn give_up(&mut self, _alloc: Global) -> Option<Bytes> {

@@ -1,5 +1,5 @@
 ghost use Rattle.std.specs.Prelude.{ℕ, Bool, true, ◌≡◌, ◌≤◌, List, [], Option, Some, IfSome, IfNone, is_some};
-ghost use Rattle.std.specs.Prelude.{OnErr};
+ghost use Rattle.std.specs.Prelude.{OnOk, OnErr};
 ghost use Rattle.std.specs.Io.{ReadsAtMost, WritesAtMost};
 ghost use Rattle.std.specs.Io.KnownBytes.{ReadConsumes, WriteAppends};
 ghost use Rattle.io_ports.specs.Faults.{Rose};
@@ -29,6 +29,7 @@ pub trait Source {
         ensures bound { ReadsAtMost result buf.new }
         ensures bytes { ReadConsumes (held self.old) (held self.new) result buf.new }
         ensures counted { faults self.old ≤ faults self.new }
+        ensures clean { OnOk result (faults self.new ≡ faults self.old) }
         ensures failed { OnErr result (Rose (faults self.old) (faults self.new)) };
 
     /// All that it still gives, without a copy, where it lends. Only `end` gives it.
@@ -39,14 +40,14 @@ pub trait Source {
     /// Gives at once all that is lent.
     fn end(&mut self)
         ensures ends { lends self.old ≡ true → held self.new ≡ Some [] }
-        ensures counted { faults self.old ≤ faults self.new };
+        ensures clean { faults self.new ≡ faults self.old };
 
     /// Gives at once all that it has, and keeps none of it, where it does not need it any more.
     fn give_up(&mut self, alloc: Global) -> Option<Bytes>
         ensures given { IfSome result (λ bytes. held self.old ≡ Some bytes) }
         ensures ended { IfSome result (λ _. held self.new ≡ Some []) }
         ensures stays { IfNone result (self.new ≡ self.old) }
-        ensures counted { faults self.old ≤ faults self.new };
+        ensures clean { faults self.new ≡ faults self.old };
 }
 
 /// Where bytes go.
@@ -64,5 +65,6 @@ pub trait Sink {
         ensures bytes { WriteAppends (taken self.old) (taken self.new) result piece.now }
         ensures some { TakesSome result piece.now }
         ensures counted { faults self.old ≤ faults self.new }
+        ensures clean { OnOk result (faults self.new ≡ faults self.old) }
         ensures failed { OnErr result (Rose (faults self.old) (faults self.new)) };
 }

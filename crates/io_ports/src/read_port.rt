@@ -47,7 +47,7 @@ impl<R> ReadPort<R> {
 
 impl<R: Read> Source for ReadPort<R> {
     ghost use Rattle.std.specs.Prelude.{true, false, Some, [], is_some, IfSome, ◌≡◌, ◌≤◌, IsErr};
-    ghost use Rattle.std.specs.Prelude.{OnErr};
+    ghost use Rattle.std.specs.Prelude.{OnOk, OnErr};
     ghost use Rattle.std.specs.Option.{option_and_then};
     ghost use Rattle.std.specs.Io.{ReadsAtMost};
     ghost use Rattle.std.specs.Io.KnownBytes.{ReadConsumes};
@@ -65,6 +65,7 @@ impl<R: Read> Source for ReadPort<R> {
         ensures bytes { ReadConsumes (option_and_then R.remaining self.old.reader)
             (option_and_then R.remaining self.new.reader) result buf.new }
         ensures counted { self.old.faults ≤ self.new.faults }
+        ensures clean { OnOk result (self.new.faults ≡ self.old.faults) }
         ensures failed { OnErr result (Rose self.old.faults self.new.faults) }
 
         // Where nothing is there each call fails. Each failure counts, and nothing else does.
@@ -90,7 +91,7 @@ impl<R: Read> Source for ReadPort<R> {
 
     fn end(&mut self)
         ensures ends { false ≡ true → option_and_then R.remaining self.new.reader ≡ Some [] }
-        ensures counted { self.old.faults ≤ self.new.faults }
+        ensures clean { self.new.faults ≡ self.old.faults }
     {}
 
     fn give_up(&mut self, _alloc: Global) -> Option<Bytes> {

@@ -1,4 +1,4 @@
-ghost use Rattle.std.specs.Prelude.{◌≡◌, ◌≢◌, ◌^◌, ◌<◌, ◌≤◌, length, vec_len, IfOk, IfSome};
+ghost use Rattle.std.specs.Prelude.{◌≡◌, ◌≢◌, ◌^◌, ◌<◌, ◌≤◌, length, vec_len, IfOk, OnOk, IfSome};
 ghost use Rattle.io_ports.specs.Faults.{Rose};
 ghost use Rattle.io_ports.specs.Reading.{ReadsWhole, ReadsPiece};
 
@@ -44,6 +44,7 @@ pub fn read_all<S: Source>(
     ensures failed { result ≡ Err ReadError.Failed
         → Rose (S.faults source.old) (S.faults source.new) }
     ensures counted { S.faults source.old ≤ S.faults source.new }
+    ensures clean { OnOk result (S.faults source.new ≡ S.faults source.old) }
 {
     match source.give_up(alloc) {
         Some(bytes) if bytes.as_slice().len() <= limit => Ok(bytes.into_vec()),
@@ -62,6 +63,7 @@ fn read_pieces<S: Source>(alloc: Global, source: &mut S, limit: usize) -> Result
     ensures failed { result ≡ Err ReadError.Failed
         → Rose (S.faults source.old) (S.faults source.new) }
     ensures counted { S.faults source.old ≤ S.faults source.new }
+    ensures clean { OnOk result (S.faults source.new ≡ S.faults source.old) }
 {
     let mut buffer = zeros(alloc)?;
     let mut bytes = Vec::new(alloc);
@@ -88,6 +90,7 @@ fn read_piece<S: Source>(
     ensures failed { result ≡ Err ReadError.Failed
         → Rose (S.faults source.old) (S.faults source.new) }
     ensures counted { S.faults source.old ≤ S.faults source.new }
+    ensures clean { OnOk result (S.faults source.new ≡ S.faults source.old) }
 {
     let Ok(count) = source.read(buffer.as_mut_slice()) else {
         return Err(ReadError::Failed);

@@ -35,7 +35,7 @@ impl SureSink {
 }
 
 impl Sink for SureSink {
-    ghost use Rattle.std.specs.Prelude.{None, Ok, ◌≡◌, ◌+◌, ◌-◌, ◌^◌, ◌≤◌, min, length, OnErr};
+    ghost use Rattle.std.specs.Prelude.{None, Ok, ◌≡◌, ◌+◌, ◌-◌, ◌^◌, ◌≤◌, min, length, OnOk, OnErr, ℕ};
     ghost use Rattle.std.specs.Io.{WritesAtMost};
     ghost use Rattle.std.specs.Io.KnownBytes.{WriteAppends};
     ghost use Rattle.io_ports.specs.Faults.{Rose};
@@ -50,6 +50,7 @@ impl Sink for SureSink {
         ensures bytes { WriteAppends None None result piece.now }
         ensures some { TakesSome result piece.now }
         ensures counted { 0 ≤ 0 }
+        ensures clean { OnOk result (◌≡◌ {A = ℕ} 0 0) }
         ensures failed { OnErr result (Rose 0 0) }
 
         // It never fails, and takes the whole piece.

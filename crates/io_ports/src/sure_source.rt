@@ -32,7 +32,7 @@ impl SureSource {
 }
 
 impl Source for SureSource {
-    ghost use Rattle.std.specs.Prelude.{Ok, Some, ◌≡◌, ◌≤◌, min, length, take, drop, IfOk, OnErr};
+    ghost use Rattle.std.specs.Prelude.{Ok, Some, ◌≡◌, ◌≤◌, min, length, take, drop, IfOk, OnOk, OnErr, ℕ};
     ghost use Rattle.std.specs.Prelude.{true, [], IfSome, is_some};
     ghost use Rattle.std.specs.Io.{ReadsAtMost};
     ghost use Rattle.std.specs.Io.KnownBytes.{ReadConsumes};
@@ -48,6 +48,7 @@ impl Source for SureSource {
         ensures bound { ReadsAtMost result buf.new }
         ensures bytes { ReadConsumes (Some self.old) (Some self.new) result buf.new }
         ensures counted { 0 ≤ 0 }
+        ensures clean { OnOk result (◌≡◌ {A = ℕ} 0 0) }
         ensures failed { OnErr result (Rose 0 0) }
 
         // It never fails, and gives as much as it can.
@@ -71,7 +72,7 @@ impl Source for SureSource {
 
     fn end(&mut self)
         ensures ends { true ≡ true → Some self.new ≡ Some [] }
-        ensures counted { 0 ≤ 0 }
+        ensures clean { ◌≡◌ {A = ℕ} 0 0 }
     {
         self.given = self.bytes.as_slice().len();
     }

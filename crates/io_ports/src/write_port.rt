@@ -49,7 +49,7 @@ impl<W> WritePort<W> {
 }
 
 impl<W: Write> Sink for WritePort<W> {
-    ghost use Rattle.std.specs.Prelude.{Some, ◌≡◌, ◌≤◌, OnErr};
+    ghost use Rattle.std.specs.Prelude.{Some, ◌≡◌, ◌≤◌, OnOk, OnErr};
     ghost use Rattle.std.specs.Io.{WritesAtMost};
     ghost use Rattle.std.specs.Io.KnownBytes.{WriteAppends};
     ghost use Rattle.io_ports.specs.Faults.{Rose};
@@ -64,6 +64,7 @@ impl<W: Write> Sink for WritePort<W> {
         ensures bytes { WriteAppends (Some self.old.taken) (Some self.new.taken) result piece.now }
         ensures some { TakesSome result piece.now }
         ensures counted { self.old.faults ≤ self.new.faults }
+        ensures clean { OnOk result (self.new.faults ≡ self.old.faults) }
         ensures failed { OnErr result (Rose self.old.faults self.new.faults) }
 
         // What it tells of a call is what the writer took in it, where that one tells it.

@@ -14,6 +14,7 @@ pub fn write_all<K: Sink>(sink: &mut K, text: &[u8]) -> Result<(), Failed>
     ensures front { OnErr result (WritesFront (K.taken sink.old) (K.taken sink.new) text.now) }
     ensures failed { OnErr result (Rose (K.faults sink.old) (K.faults sink.new)) }
     ensures counted { K.faults sink.old ≤ K.faults sink.new }
+    ensures clean { OnOk result (K.faults sink.new ≡ K.faults sink.old) }
 {
     let mut written = 0;
     'pieces: while written < text.len() {
@@ -30,6 +31,7 @@ fn write_piece<K: Sink>(sink: &mut K, text: &[u8], at: usize) -> Result<usize, F
     ensures nothing { OnErr result (Keeps (K.taken sink.old) (K.taken sink.new)) }
     ensures failed { OnErr result (Rose (K.faults sink.old) (K.faults sink.new)) }
     ensures counted { K.faults sink.old ≤ K.faults sink.new }
+    ensures clean { OnOk result (K.faults sink.new ≡ K.faults sink.old) }
 {
     sink.write(piece_at(text, at))
 }

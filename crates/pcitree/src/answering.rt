@@ -1,11 +1,11 @@
-ghost use Rattle.std.specs.Prelude.{◌≡◌, ◌<◌, ◌^◌, Ok, Err, IfOk, IfErr, length, map, string_bytes};
+ghost use Rattle.std.specs.Prelude.{◌≡◌, ◌<◌, ◌^◌, Ok, Err, IfOk, IfErr, length};
 ghost use Rattle.pcitree.specs.Answers.{AnswersTo, Refuses};
 ghost use Rattle.pcitree.specs.Given.{IsGiven};
 
 use crate::words::{operation_in, operations_in, rows_in};
 use command_runs::Gate;
 use program_status::{Answered, Status};
-use program_words::Form;
+use program_words::{Called, Form};
 use std::alloc::Global;
 use std::thread::Threads;
 
@@ -14,15 +14,15 @@ pub(crate) fn answer<R: Threads + Sync, G: Gate + Sync>(
     rt: &R,
     alloc: Global,
     form: Form,
-    words: &[String],
+    words: &Called,
     input: &[u8],
     gate: &G,
 ) -> Result<Answered, Status>
     requires short { length input.now < 2 ^ 31 }
     requires given { IsGiven form input.now }
-    ensures ok { IfOk result (λ answer. AnswersTo form (map string_bytes words.now) input.now
+    ensures ok { IfOk result (λ answer. AnswersTo form words.now input.now
         answer.text.items answer.ending) }
-    ensures err { IfErr result (Refuses form (map string_bytes words.now) input.now) }
+    ensures err { IfErr result (Refuses form words.now input.now) }
 {
     match form {
         Form::Safe => command_safe::answer_safe(alloc, input),
@@ -55,24 +55,25 @@ pub(crate) fn answer<R: Threads + Sync, G: Gate + Sync>(
     }
 }
 
-/// The same of an input that was read for it: `observe` lets it go as soon as it has its log.
+/// The same of an input that was read for it, which is let go as soon as its form has no need of it.
 pub(crate) fn answer_owned<R: Threads + Sync, G: Gate + Sync>(
     rt: &R,
     alloc: Global,
     form: Form,
-    words: &[String],
+    words: &Called,
     input: Vec<u8>,
     gate: &G,
 ) -> Result<Answered, Status>
     requires short { length input.items < 2 ^ 31 }
     requires given { IsGiven form input.items }
-    ensures ok { IfOk result (λ answer. AnswersTo form (map string_bytes words.now) input.items
+    ensures ok { IfOk result (λ answer. AnswersTo form words.now input.items
         answer.text.items answer.ending) }
-    ensures err { IfErr result (Refuses form (map string_bytes words.now) input.items) }
+    ensures err { IfErr result (Refuses form words.now input.items) }
 {
-    match form {
-        Form::Observe => done(command_observe::answer_observe_owned(alloc, input)),
-        _ => answer(rt, alloc, form, words, input.as_slice(), gate),
+    if form.row().lets_go {
+        done(command_observe::answer_observe_owned(alloc, input))
+    } else {
+        answer(rt, alloc, form, words, input.as_slice(), gate)
     }
 }
 

@@ -1,4 +1,4 @@
-ghost use Rattle.std.specs.Prelude.{◌≡◌, ◌≤◌, ◌↔◌, ℕ, true, List, [], length, Some, None, map, string_bytes, IsSome, OnOk, IfOk, IfErr, IfSome};
+ghost use Rattle.std.specs.Prelude.{◌≡◌, ◌≤◌, ◌↔◌, ℕ, true, List, [], length, Some, None, IsSome, OnOk, IfOk, IfErr, IfSome};
 ghost use Rattle.io_ports.specs.Faults.{Rose};
 ghost use Rattle.program_words.specs.declared.Form.{Form as WordForm};
 ghost use Rattle.pcitree.specs.Words.{is_of, form_of, misfit};
@@ -16,7 +16,7 @@ use command_runs::{
 };
 use io_ports::{ReadError, Sink, Source, read_all, write_all};
 use program_status::{Answered, Status};
-use program_words::Form;
+use program_words::{Called, Form};
 use std::alloc::Global;
 use std::thread::Threads;
 
@@ -27,44 +27,49 @@ use std::thread::Threads;
 pub fn pcitree<R: Threads + Sync, S: Source, K: Sink, G: Gate + Sync>(
     rt: &R,
     alloc: Global,
-    words: &[String],
+    words: &Called,
     source: &mut S,
     sink: &mut K,
     gate: &G,
 ) -> Status
     // Usage, exactly where the words are of no form. Then nothing was read.
-    ensures usage { IsUsage result ↔ (form_of (map string_bytes words.now) ≡ None) }
-    ensures misfit { (word : ℕ) → result ≡ Status.Usage word
-        → word ≡ misfit (map string_bytes words.now) }
+    ensures usage { IsUsage result ↔ (form_of words.now ≡ None) }
+    ensures misfit { (word : ℕ) → result ≡ Status.Usage word → word ≡ misfit words.now }
     ensures unread { IsUsage result → source.new ≡ source.old }
     // Where a number among the words is the input, the source is not read.
-    ensures unasked { (form : WordForm) → form_of (map string_bytes words.now) ≡ Some form
-        → IsSome (number_of form (map string_bytes words.now)) → source.new ≡ source.old }
+    ensures unasked { (form : WordForm) → form_of words.now ≡ Some form
+        → IsSome (number_of form words.now) → source.new ≡ source.old }
     // The faults of the ports.
     ensures read_fault { result ≡ Status.ReadFault
         → Rose (S.faults source.old) (S.faults source.new) }
     ensures write_fault { result ≡ Status.WriteFault
         → Rose (K.faults sink.old) (K.faults sink.new) }
+    // Where the answer is a success, no call of a port failed.
+    ensures clean { IsSuccess result → (S.faults source.new ≡ S.faults source.old) ×
+        (K.faults sink.new ≡ K.faults sink.old) }
     // What the sink has: the whole text with `Done`, with `NotSafe` of `safe`, `DrawnTo` of `draw` and
     // `ToldTo` of `observe --acts`.
     ensures unwritten { IsBeforeWriting result → sink.new ≡ sink.old }
-    ensures front { result ≡ Status.WriteFault → IfSome (form_of (map string_bytes words.now)) (λ form.
-        StopsInText form (map string_bytes words.now) (given form (map string_bytes words.now) (S.held source.old)) (left form (map string_bytes words.now) (S.held source.new))
-        (K.taken sink.old) (K.taken sink.new)) }
-    ensures done { IsSuccess result → IfSome (form_of (map string_bytes words.now)) (λ form.
-        Finishes form (map string_bytes words.now) (given form (map string_bytes words.now) (S.held source.old)) (left form (map string_bytes words.now) (S.held source.new))
-        (K.taken sink.old) (K.taken sink.new) result) }
-    // What `run`, `finish`, `devices` or `adverse` wrote is the text of a complete run, as `check` wants it.
-    ensures checked { (form : WordForm) → result ≡ Status.Done → form_of (map string_bytes words.now) ≡ Some form
+    ensures front { result ≡ Status.WriteFault → IfSome (form_of words.now) (λ form.
+        StopsInText form words.now (given form words.now (S.held source.old))
+        (left form words.now (S.held source.new)) (K.taken sink.old) (K.taken sink.new)) }
+    ensures done { IsSuccess result → IfSome (form_of words.now) (λ form.
+        Finishes form words.now (given form words.now (S.held source.old))
+        (left form words.now (S.held source.new)) (K.taken sink.old) (K.taken sink.new) result) }
+    // What `run`, `finish`, `devices` or `adverse` wrote is a complete run, as `check` wants it.
+    ensures checked { (form : WordForm) → result ≡ Status.Done → form_of words.now ≡ Some form
         → writes_run form ≡ true → WritesRun (K.taken sink.old) (K.taken sink.new) }
-    ensures refused { IsRefusal result → IfSome (form_of (map string_bytes words.now)) (λ form.
-        RefusesInput form (map string_bytes words.now) (given form (map string_bytes words.now) (S.held source.old)) (left form (map string_bytes words.now) (S.held source.new)) result) }
+    ensures refused { IsRefusal result → IfSome (form_of words.now) (λ form.
+        RefusesInput form words.now (given form words.now (S.held source.old))
+        (left form words.now (S.held source.new)) result) }
     // Where the source tells what it holds, each answer has its cause in that, and an input that is
     // served is answered, unless a port fails or there is no memory.
-    ensures cause { (form : WordForm) (input : List ℕ) → form_of (map string_bytes words.now) ≡ Some form
-        → given form (map string_bytes words.now) (S.held source.old) ≡ Some input → Causes form (map string_bytes words.now) input result }
-    ensures served { (form : WordForm) (input : List ℕ) → form_of (map string_bytes words.now) ≡ Some form
-        → given form (map string_bytes words.now) (S.held source.old) ≡ Some input → IsServed form (map string_bytes words.now) input → Serves result }
+    ensures cause { (form : WordForm) (input : List ℕ) → form_of words.now ≡ Some form
+        → given form words.now (S.held source.old) ≡ Some input
+        → Causes form words.now input result }
+    ensures served { (form : WordForm) (input : List ℕ) → form_of words.now ≡ Some form
+        → given form words.now (S.held source.old) ≡ Some input
+        → IsServed form words.now input → Serves result }
 {
     written_runs_are_complete();
     finished_traces_are_complete();
@@ -78,19 +83,22 @@ pub fn pcitree<R: Threads + Sync, S: Source, K: Sink, G: Gate + Sync>(
 fn run<R: Threads + Sync, S: Source, K: Sink, G: Gate + Sync>(
     rt: &R,
     alloc: Global,
-    words: &[String],
+    words: &Called,
     source: &mut S,
     sink: &mut K,
     gate: &G,
 ) -> Result<Status, Status>
-    ensures form { OnOk result (IsSome (form_of (map string_bytes words.now))) }
-    ensures done { IfOk result (λ ending. IfSome (form_of (map string_bytes words.now)) (λ form. Finishes form (map string_bytes words.now)
-        (given form (map string_bytes words.now) (S.held source.old)) (left form (map string_bytes words.now) (S.held source.new)) (K.taken sink.old) (K.taken sink.new) ending)) }
-    ensures misfit { (word : ℕ) → result ≡ Err (Status.Usage word) → word ≡ misfit (map string_bytes words.now) }
+    ensures form { OnOk result (IsSome (form_of words.now)) }
+    ensures done { IfOk result (λ ending. IfSome (form_of words.now) (λ form.
+        Finishes form words.now (given form words.now (S.held source.old))
+        (left form words.now (S.held source.new)) (K.taken sink.old) (K.taken sink.new) ending)) }
+    ensures clean { OnOk result ((S.faults source.new ≡ S.faults source.old) ×
+        (K.faults sink.new ≡ K.faults sink.old)) }
+    ensures misfit { (word : ℕ) → result ≡ Err (Status.Usage word) → word ≡ misfit words.now }
     ensures stopped { IfErr result (StopsRunning S K S.held S.faults K.taken K.faults
-        (form_of (map string_bytes words.now)) (map string_bytes words.now) source.old source.new sink.old sink.new) }
-    ensures unasked { (form : WordForm) → form_of (map string_bytes words.now) ≡ Some form
-        → IsSome (number_of form (map string_bytes words.now)) → source.new ≡ source.old }
+        (form_of words.now) words.now source.old source.new sink.old sink.new) }
+    ensures unasked { (form : WordForm) → form_of words.now ≡ Some form
+        → IsSome (number_of form words.now) → source.new ≡ source.old }
 {
     match form_of(words) {
         None => Err(Status::Usage {
@@ -105,17 +113,19 @@ fn serve<R: Threads + Sync, S: Source, K: Sink, G: Gate + Sync>(
     rt: &R,
     alloc: Global,
     form: Form,
-    words: &[String],
+    words: &Called,
     source: &mut S,
     sink: &mut K,
     gate: &G,
 ) -> Result<Status, Status>
-    requires { is_of (parts_of form) [] (map string_bytes words.now) ≡ true }
-    ensures done { IfOk result (Finishes form (map string_bytes words.now)
-        (given form (map string_bytes words.now) (S.held source.old)) (left form (map string_bytes words.now) (S.held source.new)) (K.taken sink.old) (K.taken sink.new)) }
+    requires { is_of (parts_of form) [] words.now ≡ true }
+    ensures done { IfOk result (Finishes form words.now (given form words.now (S.held source.old))
+        (left form words.now (S.held source.new)) (K.taken sink.old) (K.taken sink.new)) }
+    ensures clean { OnOk result ((S.faults source.new ≡ S.faults source.old) ×
+        (K.faults sink.new ≡ K.faults sink.old)) }
     ensures stopped { IfErr result (StopsServing S K S.held S.faults K.taken K.faults
-        form (map string_bytes words.now) (number_of form (map string_bytes words.now)) source.old source.new sink.old sink.new) }
-    ensures unasked { IsSome (number_of form (map string_bytes words.now)) → source.new ≡ source.old }
+        form words.now (number_of form words.now) source.old source.new sink.old sink.new) }
+    ensures unasked { IsSome (number_of form words.now) → source.new ≡ source.old }
 {
     let Answered { text, ending } = answer_of(rt, alloc, form, words, source, gate)?;
     match write_all(sink, &text) {
@@ -129,20 +139,19 @@ fn answer_of<R: Threads + Sync, S: Source, G: Gate + Sync>(
     rt: &R,
     alloc: Global,
     form: Form,
-    words: &[String],
+    words: &Called,
     source: &mut S,
     gate: &G,
 ) -> Result<Answered, Status>
-    requires { is_of (parts_of form) [] (map string_bytes words.now) ≡ true }
-    ensures ok { IfOk result (λ answer. AnswersInput form (map string_bytes words.now)
-        (given form (map string_bytes words.now) (S.held source.old))
-        (left form (map string_bytes words.now) (S.held source.new))
+    requires { is_of (parts_of form) [] words.now ≡ true }
+    ensures ok { IfOk result (λ answer. AnswersInput form words.now
+        (given form words.now (S.held source.old)) (left form words.now (S.held source.new))
         answer.text.items answer.ending) }
-    ensures stopped { IfErr result (StopsAnswering form (map string_bytes words.now)
-        (given form (map string_bytes words.now) (S.held source.old))
-        (left form (map string_bytes words.now) (S.held source.new))
+    ensures clean { OnOk result (S.faults source.new ≡ S.faults source.old) }
+    ensures stopped { IfErr result (StopsAnswering form words.now
+        (given form words.now (S.held source.old)) (left form words.now (S.held source.new))
         (S.faults source.old) (S.faults source.new)) }
-    ensures unasked { IsSome (number_of form (map string_bytes words.now)) → source.new ≡ source.old }
+    ensures unasked { IsSome (number_of form words.now) → source.new ≡ source.old }
 {
     match number_of(form, words) {
         Some(number) => answer(rt, alloc, form, words, number.as_bytes(), gate),
@@ -155,13 +164,15 @@ fn read_and_answer<R: Threads + Sync, S: Source, G: Gate + Sync>(
     rt: &R,
     alloc: Global,
     form: Form,
-    words: &[String],
+    words: &Called,
     source: &mut S,
     gate: &G,
 ) -> Result<Answered, Status>
     requires { reads_file form ≡ true }
-    ensures ok { IfOk result (λ answer. AnswersInput form (map string_bytes words.now) (S.held source.old) (S.held source.new) answer.text.items answer.ending) }
-    ensures stopped { IfErr result (StopsAnswering form (map string_bytes words.now)
+    ensures ok { IfOk result (λ answer. AnswersInput form words.now
+        (S.held source.old) (S.held source.new) answer.text.items answer.ending) }
+    ensures clean { OnOk result (S.faults source.new ≡ S.faults source.old) }
+    ensures stopped { IfErr result (StopsAnswering form words.now
         (S.held source.old) (S.held source.new) (S.faults source.old) (S.faults source.new)) }
 {
     if let Some(input) = source.lent() {
@@ -178,7 +189,9 @@ fn read_and_answer<R: Threads + Sync, S: Source, G: Gate + Sync>(
 
 /// Reads an input to its end.
 fn read_input<S: Source>(alloc: Global, form: Form, source: &mut S) -> Result<Vec<u8>, Status>
-    ensures ok { IfOk result (λ input. ReadsInput form (S.held source.old) (S.held source.new) input.items) }
+    ensures ok { IfOk result (λ input.
+        ReadsInput form (S.held source.old) (S.held source.new) input.items) }
+    ensures clean { OnOk result (S.faults source.new ≡ S.faults source.old) }
     ensures stopped { (words : List (List ℕ)) → IfErr result (StopsAnswering form words
         (S.held source.old) (S.held source.new) (S.faults source.old) (S.faults source.new)) }
 {

@@ -1,4 +1,4 @@
-ghost use Rattle.std.specs.Prelude.{◌≡◌, ◌≢◌, ℕ, List, Some, map, string_bytes, ◌⊎◌};
+ghost use Rattle.std.specs.Prelude.{◌≡◌, ◌≢◌, ℕ, List, Some, ◌⊎◌};
 ghost use Rattle.program_words.specs.declared.Form.{Form as WordForm};
 ghost use Rattle.pcitree.specs.Words.{form_of};
 ghost use Rattle.pcitree.specs.Given.{given};
@@ -8,6 +8,7 @@ use crate::program::pcitree;
 use command_runs::Gate;
 use io_ports::{SureSink, SureSource};
 use program_status::Status;
+use program_words::Called;
 use std::alloc::Global;
 use std::thread::Threads;
 
@@ -16,7 +17,7 @@ use std::thread::Threads;
 pub fn pcitree_surely<R: Threads + Sync, G: Gate + Sync>(
     rt: &R,
     alloc: Global,
-    words: &[String],
+    words: &Called,
     source: &mut SureSource,
     sink: &mut SureSink,
     gate: &G,
@@ -25,12 +26,12 @@ pub fn pcitree_surely<R: Threads + Sync, G: Gate + Sync>(
     ensures writes { result ≢ Status.WriteFault }
 
     // The input is the number among the words, or else what the source holds.
-    ensures cause { (form : WordForm) (input : List ℕ) → form_of (map string_bytes words.now) ≡ Some form
-        → given form (map string_bytes words.now) (Some source.old) ≡ Some input → Causes form (map string_bytes words.now) input result }
-    ensures served { (form : WordForm) (input : List ℕ) → form_of (map string_bytes words.now) ≡ Some form
-        → given form (map string_bytes words.now) (Some source.old) ≡ Some input
-        → IsServed form (map string_bytes words.now) input
-        → IsAnswered form (map string_bytes words.now) input result ⊎ (result ≡ Status.NoMemory) }
+    ensures cause { (form : WordForm) (input : List ℕ) → form_of words.now ≡ Some form
+        → given form words.now (Some source.old) ≡ Some input → Causes form words.now input result }
+    ensures served { (form : WordForm) (input : List ℕ) → form_of words.now ≡ Some form
+        → given form words.now (Some source.old) ≡ Some input
+        → IsServed form words.now input
+        → IsAnswered form words.now input result ⊎ (result ≡ Status.NoMemory) }
 {
     pcitree(rt, alloc, words, source, sink, gate)
 }

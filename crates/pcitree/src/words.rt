@@ -7,7 +7,7 @@ ghost use Rattle.pcitree.specs.Given.{number_in, number_of};
 use command_runs::names_rounds;
 use command_traces::{Rows, names_event, rows_of};
 use judge_adverse::names_operation;
-use program_words::{FORMS, Form, Part};
+use program_words::{Called, FORMS, Form, Part};
 
 /// Whether the word, behind another, is as the part has it.
 fn fits(part: Part, before: &str, word: &str) -> bool
@@ -79,11 +79,11 @@ fn is_of(parts: &[Part], before: &str, words: &[String]) -> bool
 }
 
 /// The number among words of this form, if the form has one.
-pub(crate) fn number_of(form: Form, words: &[String]) -> Option<&str>
-    ensures value { option_map (λ number. number.now) result ≡ number_of form (map string_bytes words.now) }
+pub(crate) fn number_of<'a>(form: Form, words: &Called<'a>) -> Option<&'a str>
+    ensures value { option_map (λ number. number.now) result ≡ number_of form words.now }
     ensures small { input_limit form < 2 ^ 31 }
 {
-    number_in(form.row().parts, words)
+    number_in(form.row().parts, words.words())
 }
 
 /// The number among the words, where one of the parts is a number.
@@ -101,40 +101,41 @@ fn number_in<'a>(parts: &[Part], words: &'a [String]) -> Option<&'a str>
 }
 
 /// The events that the words ask for, in words of the form `draw FILE FIRST LAST`.
-pub(crate) fn rows_in(words: &[String]) -> Option<Rows>
-    ensures { result ≡ rows_in (map string_bytes words.now) }
+pub(crate) fn rows_in(words: &Called) -> Option<Rows>
+    ensures { result ≡ rows_in words.now }
 {
-    match words {
+    match words.words() {
         [_draw, _file, first, last] => rows_of(first.as_bytes(), last.as_bytes()),
         _ => None,
     }
 }
 
 /// The operation that the words name, in words of the form `draw FILE OPERATION`.
-pub(crate) fn operation_in(words: &[String]) -> &[u8]
-    ensures { result.now ≡ operation_in (map string_bytes words.now) }
+pub(crate) fn operation_in<'a>(words: &Called<'a>) -> &'a [u8]
+    ensures { result.now ≡ operation_in words.now }
 {
-    match words {
+    match words.words() {
         [_draw, _file, operation] => operation.as_bytes(),
         _ => &[],
     }
 }
 
 /// The operations that the words name, in words of the form `adverse FILE READ WRITE`.
-pub(crate) fn operations_in(words: &[String]) -> (&[u8], &[u8])
-    ensures read { result.0.now ≡ read_in (map string_bytes words.now) }
-    ensures write { result.1.now ≡ write_in (map string_bytes words.now) }
+pub(crate) fn operations_in<'a>(words: &Called<'a>) -> (&'a [u8], &'a [u8])
+    ensures read { result.0.now ≡ read_in words.now }
+    ensures write { result.1.now ≡ write_in words.now }
 {
-    match words {
+    match words.words() {
         [_adverse, _file, read, write] => (read.as_bytes(), write.as_bytes()),
         _ => (&[], &[]),
     }
 }
 
 /// The form that the words are of.
-pub(crate) fn form_of(words: &[String]) -> Option<Form>
-    ensures { result ≡ form_of (map string_bytes words.now) }
+pub fn form_of(words: &Called) -> Option<Form>
+    ensures { result ≡ form_of words.now }
 {
+    let words = words.words();
     FORMS
         .iter()
         .copied()
@@ -143,9 +144,10 @@ pub(crate) fn form_of(words: &[String]) -> Option<Form>
 
 /// The place, from 0, of the first word that fits no form, or the number of words where one is
 /// missing.
-pub(crate) fn misfit(words: &[String]) -> u32
-    ensures { result ≡ misfit (map string_bytes words.now) }
+pub(crate) fn misfit(words: &Called) -> u32
+    ensures { result ≡ misfit words.now }
 {
+    let words = words.words();
     FORMS.iter().fold(
         0,
         |longest: u32, form| longest.max(fitting(form.row().parts, "", words)),
@@ -154,8 +156,8 @@ pub(crate) fn misfit(words: &[String]) -> u32
 
 /// The place, from 0, of the word that names the file to be read. None exactly where the words are
 /// of no form, or of one that reads no file.
-pub fn file_word(words: &[String]) -> Option<u32>
-    ensures { result ≡ file_place (map string_bytes words.now) }
+pub fn file_word(words: &Called) -> Option<u32>
+    ensures { result ≡ file_place words.now }
 {
     let form = form_of(words)?;
     let place = file_in(form.row().parts)?;
@@ -179,8 +181,8 @@ fn first_file(parts: &[Part]) -> Option<usize>
 }
 
 /// How many bytes the input may have that the words ask for. 0 where they are of no form.
-pub fn input_limit(words: &[String]) -> usize
-    ensures value { result ≡ limit_by (form_of (map string_bytes words.now)) }
+pub fn input_limit(words: &Called) -> usize
+    ensures value { result ≡ limit_by (form_of words.now) }
     ensures small { result < 2 ^ 31 }
 {
     match form_of(words) {

@@ -8,7 +8,7 @@ mod report;
 
 use asked::tell;
 use io_ports::{HeldSource, ReadPort, WritePort};
-use pcitree::{NoGate, Status, file_word, input_limit, pcitree};
+use pcitree::{Called, NoGate, Status, file_word, form_of, input_limit, pcitree};
 use program_messages::{Asked, asked_for};
 use report::report;
 use std::env;
@@ -64,13 +64,14 @@ fn misfit(rt: &HostRuntime, words: &[String], word: u32) -> Status {
 /// that answers it. What it starts threads by is the runtime too.
 fn run<R: Threads + Sync>(rt: &HostRuntime, threads: &R, words: &[String]) -> Status {
     let name = file_name(words);
+    let call = Called::new(words);
     let (file, reason) = open(rt, name);
-    // a log is let go once it is read, where it can be read again, as no pipe can
+    // an input is let go once it is read, where it can be read again, as no pipe can
     let is_file = |file: &File| file.metadata().is_ok_and(|data| data.is_file());
-    let is_log = matches!(words, [word, _file] if word.as_str() == "observe");
-    let can_let_go = is_log && file.as_ref().is_some_and(is_file);
+    let lets_go = form_of(&call).is_some_and(|form| form.row().lets_go);
+    let can_let_go = lets_go && file.as_ref().is_some_and(is_file);
     let mut port = ReadPort::new(file);
-    let Ok(mut source) = HeldSource::read_ahead(rt.alloc(), &mut port, input_limit(words) + 1)
+    let Ok(mut source) = HeldSource::read_ahead(rt.alloc(), &mut port, input_limit(&call) + 1)
     else {
         return status_only(rt, Status::NoMemory);
     };
@@ -79,7 +80,7 @@ fn run<R: Threads + Sync>(rt: &HostRuntime, threads: &R, words: &[String]) -> St
     }
     let reason = reason.or(port.reason());
     let mut sink = WritePort::new(rt.stdout());
-    let status = pcitree(threads, rt.alloc(), words, &mut source, &mut sink, &NoGate);
+    let status = pcitree(threads, rt.alloc(), &call, &mut source, &mut sink, &NoGate);
     if status != Status::Done {
         let reason = reason.or(sink.reason());
         let source = again(rt, words, name, source);
@@ -94,13 +95,13 @@ fn again(rt: &HostRuntime, words: &[String], name: &str, source: HeldSource) -> 
         return source;
     }
     let mut port = ReadPort::new(open(rt, name).0);
-    let most = input_limit(words) + 1;
+    let most = input_limit(&Called::new(words)) + 1;
     HeldSource::read_ahead(rt.alloc(), &mut port, most).unwrap_or(source)
 }
 
 /// The name of the file to be read, if the words are of a form that reads one.
 fn file_name(words: &[String]) -> &str {
-    file_word(words)
+    file_word(&Called::new(words))
         .and_then(|place| words.get(place as usize))
         .map_or("", |name| name.as_str())
 }

@@ -1,11 +1,11 @@
-use pci_command::NoMemory;
-use pcitree::{Status, faulty_word, input_limit, retell};
-use program_messages::{
-    MOST_DRAWN, form_of, limit_words, message, message_of_bad_log, message_of_log, not_shown, note,
-    unread, unwritten,
+use message_texts::{
+    MOST_DRAWN, limit_text, message_of_bad_log, not_shown, note, unread, unwritten,
 };
+use pci_command::NoMemory;
+use pcitree::{Called, Status, faulty_word, form_of, retell};
+use program_messages::{message, message_of_log};
 use program_pages::Message;
-use program_words::usage_help;
+use program_words::{Reads, usage_help};
 use std::io::ErrorKind;
 
 /// The lines on standard error. Where there is no memory for those behind the first there are none.
@@ -42,11 +42,10 @@ fn message_of(
     status: Status,
     reason: Option<ErrorKind>,
 ) -> Result<Message, NoMemory> {
-    let form = form_of(words.first().map_or("", |word| word.as_str()));
     match (status, words) {
         (Status::ReadFault, _) => unread(rt.alloc(), name, reason),
         (Status::WriteFault, _) => unwritten(rt.alloc(), reason),
-        (Status::TooLong, _) => note(rt.alloc(), limit_words(form, input_limit(words))),
+        (Status::TooLong, _) => note(rt.alloc(), limit_text(reads_of(words))),
         (Status::TooManyEvents { .. }, _) => note(rt.alloc(), MOST_DRAWN),
         (Status::NotShown, [_adverse, _file, read, write]) => {
             not_shown(rt.alloc(), input, read.as_str(), write.as_str())
@@ -60,6 +59,11 @@ fn message_of(
             let refused = read.as_ref().map(|read| read.refused());
             message_of_log(rt.alloc(), name, input, &status, refused)
         }
-        _ => message(rt.alloc(), name, input, &status, form),
+        _ => message(rt.alloc(), name, input, &status, reads_of(words)),
     }
+}
+
+/// As what the words have their input read.
+fn reads_of(words: &[String]) -> Reads {
+    form_of(&Called::new(words)).map_or(Reads::Protocol, |form| form.row().reads)
 }

@@ -3,26 +3,23 @@ ghost use Rattle.std.specs.List.{list_all};
 ghost use Rattle.program_pages.specs.shown.Shown.{is_shown};
 ghost use Rattle.program_messages.specs.Quiet.{IsQuiet};
 
-use crate::board::tell_board;
 use crate::event::tell_event;
-use crate::form::InputForm;
-use crate::log::tell_seen;
-use crate::machine::tell_machine_line;
-use crate::trace::tell_trace_line;
+use message_texts::{tell_board, tell_machine_line, tell_seen, tell_trace_line};
 use pci_command::NoMemory;
 use program_pages::{Fault, Message, Teller};
 use program_status::Status;
+use program_words::Reads;
 use std::alloc::Global;
 
 /// What a status says of an input, behind its first line: the lines at fault and why. The name is
-/// that of the input, and it was read as of this form. Nothing is said of a status that does not
-/// tell of the input.
+/// that of the input, and it was read so. Nothing is said of a status that does not tell of the
+/// input.
 pub fn message(
     alloc: Global,
     name: &str,
     input: &[u8],
     status: &Status,
-    form: InputForm,
+    reads: Reads,
 ) -> Result<Message, NoMemory>
     ensures printing { IfOk result (λ message. IsTrue (list_all is_shown message)) }
     ensures quiet { IsQuiet status.now → IfOk result (λ message. message ≡ []) }
@@ -37,27 +34,9 @@ pub fn message(
         | Status::BadLog { .. }
         | Status::NotTold { .. }
         | Status::TooMuch { .. }
-        | Status::ToldTo { .. } => told(alloc, name, input, status, form),
+        | Status::ToldTo { .. } => told(alloc, name, input, status, reads),
         _ => Ok(Message::new(alloc)),
     }
-}
-
-/// What is wrong with a file.
-pub(crate) fn about(alloc: Global, name: &str, text: &str) -> Result<Message, NoMemory>
-    ensures printing { IfOk result (λ message. IsTrue (list_all is_shown message)) }
-{
-    let mut teller = Teller::new(alloc, name, None);
-    teller.error(text)?;
-    Ok(teller.into_message())
-}
-
-/// One sentence.
-pub fn note(alloc: Global, text: &str) -> Result<Message, NoMemory>
-    ensures printing { IfOk result (λ message. IsTrue (list_all is_shown message)) }
-{
-    let mut teller = Teller::new(alloc, "", None);
-    teller.note(text)?;
-    Ok(teller.into_message())
 }
 
 fn told(
@@ -65,29 +44,24 @@ fn told(
     name: &str,
     input: &[u8],
     status: &Status,
-    form: InputForm,
+    reads: Reads,
 ) -> Result<Message, NoMemory>
     ensures { IfOk result (λ message. IsTrue (list_all is_shown message)) }
 {
     let mut teller = Teller::new(alloc, name, Fault::of(status));
-    tell(&mut teller, input, status, form)?;
+    tell(&mut teller, input, status, reads)?;
     teller.more()?;
     Ok(teller.into_message())
 }
 
 /// The lines at fault, and why.
-fn tell(
-    teller: &mut Teller,
-    input: &[u8],
-    status: &Status,
-    form: InputForm,
-) -> Result<(), NoMemory> {
+fn tell(teller: &mut Teller, input: &[u8], status: &Status, reads: Reads) -> Result<(), NoMemory> {
     match *status {
-        Status::BadBoard { line, fault } => tell_board(teller, input, form, status, line, fault),
+        Status::BadBoard { line, fault } => tell_board(teller, input, reads, status, line, fault),
         Status::BadTrace { line, fault } => tell_trace_line(teller, input, line, fault),
         Status::BadMachine { line, fault } => tell_machine_line(teller, input, line, fault),
         Status::NotRun { .. } | Status::DrawnTo { .. } | Status::Incomplete { .. } => {
-            tell_event(teller, input, form)
+            tell_event(teller, input, reads)
         }
         Status::BadLog { line, .. }
         | Status::NotTold { line, .. }

@@ -1,15 +1,12 @@
 //! What is said of a fault in place of the sentence of its code: one text for each case, which is
 //! found by the fault and its line alone. Nothing is claimed of what a text says.
 mod board_lines;
-mod bytes;
-mod device_forms;
 mod device_lines;
 mod forms;
 mod limits;
-mod line_words;
 mod operations;
-mod options;
 mod places;
+mod sentences;
 mod text;
 mod trace_lines;
 mod wanted;

@@ -1,7 +1,7 @@
 //! A call of the program, by a line of words, and its ports.
 use io_ports::{MemorySink, MemorySource};
 use pci_command::List;
-use pcitree::{Gate, Status, pcitree};
+use pcitree::{Called, Gate, Status, pcitree};
 use std::alloc::Global;
 use std::test::Fail;
 use std::thread::Threads;
@@ -33,7 +33,8 @@ pub(crate) fn answer<R: Threads + Sync, G: Gate + Sync>(
     gate: &G,
 ) -> Result<Status, Fail> {
     let words = words(alloc, line)?;
-    Ok(pcitree(rt, alloc, words.as_slice(), source, sink, gate))
+    let words = Called::new(words.as_slice());
+    Ok(pcitree(rt, alloc, &words, source, sink, gate))
 }
 
 /// The words of a line.

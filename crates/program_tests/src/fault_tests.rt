@@ -3,7 +3,7 @@
 use crate::calls::{answer, sink, source, words};
 use io_ports::{MemorySink, MemorySource, SureSink, SureSource};
 use pci_command::List;
-use pcitree::{NoGate, Status, pcitree_surely};
+use pcitree::{Called, NoGate, Status, pcitree_surely};
 use std::alloc::Global;
 use std::process::Abort;
 use std::test::Fail;
@@ -107,7 +107,7 @@ fn ports_that_never_fail(rt: HostRuntime) -> Result<(), Fail> {
     let answer = pcitree_surely(
         &rt,
         rt.alloc(),
-        words.as_slice(),
+        &Called::new(words.as_slice()),
         &mut source,
         &mut sink,
         &NoGate,

@@ -1,5 +1,5 @@
 -- The table of words: what each word of a form has to be, and how many bytes its input may have.
-use Rattle.std.specs.Prelude.{ℕ, ◌^◌, List, [], ◌∷◌, codes}
+use Rattle.std.specs.Prelude.{ℕ, ◌^◌, Bool, true, false, List, [], ◌∷◌, codes}
 use Rattle.program_words.specs.declared.Part.{Part}
 use Rattle.program_words.specs.declared.Part.TheVariants as parts
 use Rattle.program_words.specs.declared.Form.{Form}
@@ -85,3 +85,8 @@ input_limit forms.Generate = 10
 input_limit forms.Devices = 2 ^ 20
 input_limit forms.Import = 2 ^ 20
 input_limit forms.Tree = 2 ^ 20
+
+-- the bytes of the input are let go as soon as it is read: of `observe LOG` alone, whose log may be long and can be read again
+abbrev pub lets_go : Form → Bool
+lets_go forms.Observe = true
+lets_go _ = false

@@ -1,25 +1,53 @@
-use crate::texts::device_forms::wanted_of_device;
-use crate::texts::line_words::{DeviceWord, device_word};
+use crate::texts::forms::{is_of_devices, wanted_of_device};
 use crate::texts::places::{byte_at, count_words, first_word, word_at};
+use crate::texts::sentences::{NOTHING_BEHIND, Row, said};
 use crate::texts::text::Text;
-use crate::texts::wanted::Wanted;
+use crate::texts::wanted::{Kind, Wanted};
 use crate::{Spot, line_at};
 use board_statements::{Words, has_words, is_word};
 use board_text::check_line;
 
+/// The first line is that of another text.
+static NO_FIRST_LINE: [Row; 2] = [
+    (
+        "pciboard",
+        "this is a board, and a device text is wanted: pcitree run FILE runs it",
+    ),
+    (
+        "pcitrace",
+        "this is a trace, and a device text is wanted: pcitree check FILE judges it",
+    ),
+];
+
+/// A line that has the form of its first word stands behind another than it may.
+static MISPLACED: [Row; 6] = [
+    ("look", "look stands behind a handler line"),
+    ("put", "put stands behind a device line"),
+    ("get", "get stands behind a device line"),
+    ("send", "send stands behind a device line"),
+    ("wait", "wait stands behind a device or handler line"),
+    ("word", "word stands behind a device or handler line"),
+];
+
 /// What is said of the line of this number of a device text, which is none that may stand there,
 /// and what of it is pointed at; if something is said.
 pub fn text_of_device(input: &[u8], number: u32) -> Option<(Text, Spot)> {
+    let spot = Spot::Word(0);
     if let Some(text) = text_of_marks(input, number) {
-        return Some((Text::Plain(text), Spot::Word(0)));
+        return Some((Text::Plain(text), spot));
     }
     let (_, line) = line_at(input, number)?;
     if check_line(line).is_err() || !has_words(line) {
         return None;
     }
+    if !is_of_devices(line) {
+        let text =
+            "no line of devices begins with this word: pcitree help device has those that do";
+        return Some((Text::Plain(text), spot));
+    }
     match first_misfit(line) {
         Some(found) => Some(found),
-        None => Some((Text::Plain(text_of_place(line)?), Spot::Word(0))),
+        None => Some((Text::Plain(said(&MISPLACED, line)?), spot)),
     }
 }
 
@@ -27,23 +55,11 @@ pub fn text_of_device(input: &[u8], number: u32) -> Option<(Text, Spot)> {
 fn text_of_marks(input: &[u8], number: u32) -> Option<&'static str> {
     if number == 1 {
         let (_, line) = line_at(input, 1)?;
-        text_of_first(line)
+        said(&NO_FIRST_LINE, line)
     } else if !has_line(input, b"devices") {
         Some("no line is devices")
     } else if is_past_end(input, number) {
         Some("the last line with words is not end")
-    } else {
-        None
-    }
-}
-
-/// The first line is that of another text.
-fn text_of_first(line: &[u8]) -> Option<&'static str> {
-    let word = first_word(line);
-    if is_word(word, b"pciboard") {
-        Some("this is a board, and a device text is wanted: pcitree run FILE runs it")
-    } else if is_word(word, b"pcitrace") {
-        Some("this is a trace, and a device text is wanted: pcitree check FILE judges it")
     } else {
         None
     }
@@ -67,26 +83,8 @@ fn has_line(text: &[u8], word: &[u8]) -> bool {
     false
 }
 
-/// A line that has the form of its first word stands behind another than it may.
-fn text_of_place(line: &[u8]) -> Option<&'static str> {
-    match device_word(line)? {
-        DeviceWord::Look => Some("look stands behind a handler line"),
-        DeviceWord::Put => Some("put stands behind a device line"),
-        DeviceWord::Get => Some("get stands behind a device line"),
-        DeviceWord::Send => Some("send stands behind a device line"),
-        DeviceWord::Wait => Some("wait stands behind a device or handler line"),
-        DeviceWord::Word => Some("word stands behind a device or handler line"),
-        DeviceWord::Device | DeviceWord::Handler => None,
-    }
-}
-
 /// The first word of a line that is not as it is wanted.
 fn first_misfit(line: &[u8]) -> Option<(Text, Spot)> {
-    if device_word(line).is_none() {
-        let text =
-            "no line of devices begins with this word: pcitree help device has those that do";
-        return Some((Text::Plain(text), Spot::Word(0)));
-    }
     let words = count_words(line);
     for index in 0..words {
         let found = misfit_at(line, index.saturating_add(1));
@@ -99,24 +97,23 @@ fn first_misfit(line: &[u8]) -> Option<(Text, Spot)> {
 
 /// What is said of the word of this place of a line, if it is not as it is wanted.
 fn misfit_at(line: &[u8], place: usize) -> Option<(Text, Spot)> {
-    let wanted = wanted_of_device(line, place)?;
-    match word_at(line, place) {
-        None => Some((wanted.missing()?, Spot::BehindWords)),
-        Some(word) => Some((misfit(line, place, wanted, word)?, Spot::Word(place))),
+    match (word_at(line, place), wanted_of_device(line, place)) {
+        (None, wanted) => Some((Text::Missing(wanted?.0), Spot::BehindWords)),
+        (Some(_), None) => Some((Text::Plain(NOTHING_BEHIND), Spot::Word(place))),
+        (Some(word), Some(wanted)) => Some((misfit(line, place, wanted, word)?, Spot::Word(place))),
     }
 }
 
 fn misfit(line: &[u8], place: usize, wanted: Wanted, word: &[u8]) -> Option<Text> {
-    match wanted {
-        Wanted::Nothing => Some(Text::Plain("nothing stands behind the words of this line")),
-        Wanted::Vectors => text_unless(is_vector_count(word), "VECTORS is 1, 2, 4, 8, 16 or 32"),
-        Wanted::Vector => text_unless(is_below(line, place), "V is below VECTORS"),
-        Wanted::Seed => misfit_of_seed(word),
-        _ => wanted.misfit(word),
-    }
-}
-
-fn text_unless(holds: bool, text: &'static str) -> Option<Text> {
+    let (holds, text) = match wanted.1 {
+        Kind::Vectors => (is_vector_count(word), "VECTORS is 1, 2, 4, 8, 16 or 32"),
+        Kind::Vector => (is_below(line, place), "V is below VECTORS"),
+        Kind::Seed => match Words::new(word).hex() {
+            Ok(number) => (number <= 0xff, "SEED is at most ff"),
+            Err(_) => return Wanted("SEED", Kind::Hex(8)).misfit(word),
+        },
+        _ => return wanted.misfit(word),
+    };
     if holds { None } else { Some(Text::Plain(text)) }
 }
 
@@ -132,18 +129,5 @@ fn is_below(line: &[u8], place: usize) -> bool {
     match (byte_at(line, place), byte_at(line, place.saturating_sub(1))) {
         (Some(number), Some(count)) => number < count,
         _ => false,
-    }
-}
-
-fn misfit_of_seed(word: &[u8]) -> Option<Text> {
-    match Words::new(word).hex() {
-        Ok(number) => text_unless(number <= 0xff, "SEED is at most ff"),
-        Err(_) => {
-            let seed = Wanted::Hex {
-                word: "SEED",
-                most: 8,
-            };
-            seed.misfit(word)
-        }
     }
 }

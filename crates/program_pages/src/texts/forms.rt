@@ -1,177 +1,249 @@
-//! What stands at which place of the lines of a board, called as `help board` calls it.
-use crate::texts::line_words::{LineWord, Operation, line_word};
-use crate::texts::options::{BEHIND_BRIDGE, BEHIND_HEADER, option_word};
-use crate::texts::places::word_at;
-use crate::texts::wanted::{Wanted, one_of};
+//! What stands at which place of a line, by its first word; called as `help board` and `help device`
+//! call it.
+use crate::texts::places::{first_word, is_among, word_at};
+use crate::texts::wanted::{Kind, Wanted};
 use board_statements::is_word;
 
-const NAME: Wanted = Wanted::Name("NAME");
+const NAME: Wanted = Wanted("NAME", Kind::Name);
 
-const ON: Wanted = Wanted::Fixed("on");
+const TARGET: Wanted = Wanted("TARGET", Kind::Name);
 
-const BUS: Wanted = Wanted::Decimal {
-    word: "BUS",
-    low: 0,
-    high: 255,
-};
+const ON: Wanted = Wanted("on", Kind::Fixed);
+
+const DEV_IS: Wanted = Wanted("dev", Kind::Fixed);
+
+const LAST_IS: Wanted = Wanted("last", Kind::Fixed);
+
+const BELL_IS: Wanted = Wanted("bell", Kind::Fixed);
+
+const WAIT_IS: Wanted = Wanted("wait", Kind::Fixed);
+
+const SPACE: Wanted = Wanted("mem or io", Kind::Fixed);
+
+const DIRECTION: Wanted = Wanted("down or up", Kind::Fixed);
+
+const BUS: Wanted = Wanted("BUS", Kind::Decimal(0, 255));
 
 /// The bus of a bridge, which is not bus 0.
-const BUS_BEHIND: Wanted = Wanted::Decimal {
-    word: "BUS",
-    low: 1,
-    high: 255,
-};
+const BUS_BEHIND: Wanted = Wanted("BUS", Kind::Decimal(1, 255));
 
-const DEV: Wanted = Wanted::Decimal {
-    word: "DEV",
-    low: 0,
-    high: 31,
-};
+const DEV: Wanted = Wanted("DEV", Kind::Decimal(0, 31));
 
-const TOKENS: Wanted = Wanted::Decimal {
-    word: "COUNT",
-    low: 0,
-    high: 1_000_000,
-};
+const TOKENS: Wanted = Wanted("COUNT", Kind::Decimal(0, 1_000_000));
 
-const PHASES: Wanted = Wanted::Decimal {
-    word: "COUNT",
-    low: 1,
-    high: 8,
-};
+const COUNT: Wanted = Wanted("COUNT", Kind::Decimal(1, 8));
 
-const PLANNED: Wanted = Wanted::Decimal {
-    word: "K",
-    low: 1,
-    high: 1_000_000,
-};
+const MODE: Wanted = Wanted("MODE", Kind::Decimal(0, 1));
 
-const REGISTER: Wanted = Wanted::Decimal {
-    word: "REG",
-    low: 0,
-    high: 63,
-};
+const PLANNED: Wanted = Wanted("K", Kind::Decimal(1, 1_000_000));
 
-const TRIES: Wanted = Wanted::Decimal {
-    word: "TRIES",
-    low: 1,
-    high: 65_536,
-};
+const REGISTER: Wanted = Wanted("REG", Kind::Decimal(0, 63));
 
-const VENDOR: Wanted = Wanted::Hex {
-    word: "VENDOR",
-    most: 4,
-};
+const TRIES: Wanted = Wanted("TRIES", Kind::Decimal(1, 65_536));
 
-const DEVICE: Wanted = Wanted::Hex {
-    word: "DEVICE",
-    most: 4,
-};
+const LENGTH: Wanted = Wanted("LENGTH", Kind::Decimal(1, 4096));
 
-const PORT: Wanted = Wanted::Hex {
-    word: "ADDR",
-    most: 8,
-};
+const VENDOR: Wanted = Wanted("VENDOR", Kind::Hex(4));
 
-const ADDRESS: Wanted = Wanted::Long("ADDR");
+const DEVICE: Wanted = Wanted("DEVICE", Kind::Hex(4));
 
-const MASK: Wanted = Wanted::Hex {
-    word: "MASK",
-    most: 8,
-};
+const MESSAGE: Wanted = Wanted("DATA", Kind::Hex(4));
 
-const VALUE: Wanted = Wanted::Hex {
-    word: "VALUE",
-    most: 8,
-};
+const PORT: Wanted = Wanted("ADDR", Kind::Hex(8));
 
-const SPACE: Wanted = Wanted::Fixed("mem or io");
+const MASK: Wanted = Wanted("MASK", Kind::Hex(8));
 
-/// What the word of this place, from 1, of a line is read as, by the first word of the line.
-pub(super) fn wanted_at(line: &[u8], place: usize) -> Wanted {
-    let Some(word) = line_word(line) else {
-        return Wanted::Nothing;
-    };
-    match word {
-        LineWord::Bridge => bridge_word(line, place),
-        LineWord::Header => header_word(line, place),
-        LineWord::Target => one_of(place, &[NAME, ON, BUS, Wanted::Fixed("dev"), DEV]),
-        LineWord::Master => one_of(place, &[NAME, ON, BUS]),
-        LineWord::Id => one_of(place, &[VENDOR, DEVICE]),
-        LineWord::Stall => one_of(place, &[TOKENS]),
-        LineWord::Burst => one_of(place, &[PHASES]),
-        LineWord::Range | LineWord::Abort => range_word(line, place),
-        LineWord::Word => opening_word(line, place),
-        LineWord::Discard | LineWord::Drop => {
-            one_of(place, &[BUS, Wanted::Fixed("down or up"), PLANNED])
+const VALUE: Wanted = Wanted("VALUE", Kind::Hex(8));
+
+const BASE: Wanted = Wanted("BASE", Kind::Hex(8));
+
+const LIMIT: Wanted = Wanted("LIMIT", Kind::Hex(8));
+
+const ADDRESS: Wanted = Wanted("ADDR", Kind::Long);
+
+const LONG_BASE: Wanted = Wanted("BASE", Kind::Long);
+
+const LONG_LIMIT: Wanted = Wanted("LIMIT", Kind::Long);
+
+const ADDRESS_THERE: Wanted = Wanted("ADDR", Kind::InSpace);
+
+const BASE_THERE: Wanted = Wanted("BASE", Kind::InSpace);
+
+const SIZE_THERE: Wanted = Wanted("SIZE", Kind::InSpace);
+
+const DATA: Wanted = Wanted("WORD", Kind::Data);
+
+const BYTES: Wanted = Wanted("BYTES", Kind::Bytes);
+
+const VECTORS: Wanted = Wanted("VECTORS", Kind::Vectors);
+
+const VECTOR: Wanted = Wanted("V", Kind::Vector);
+
+const SEED: Wanted = Wanted("SEED", Kind::Seed);
+
+/// What may stand behind the words of a form.
+#[derive(Clone, Copy)]
+enum More {
+    Nothing,
+    /// Further data words.
+    Data,
+    /// Options of a bridge.
+    Options,
+}
+
+/// The first words of the lines of a form, what their further words are, and what may stand behind.
+type Form = (&'static str, &'static [Wanted], More);
+
+/// The lines of a board.
+static BOARD_FORMS: [Form; 18] = [
+    (
+        "bridge",
+        &[BUS_BEHIND, ON, BUS, DEV_IS, DEV, LAST_IS, BUS],
+        More::Options,
+    ),
+    ("header", &[DEV, BYTES], More::Options),
+    ("target", &[NAME, ON, BUS, DEV_IS, DEV], More::Nothing),
+    ("master", &[NAME, ON, BUS], More::Nothing),
+    ("id", &[VENDOR, DEVICE], More::Nothing),
+    ("stall", &[TOKENS], More::Nothing),
+    ("burst", &[COUNT], More::Nothing),
+    (
+        "range abort",
+        &[SPACE, BASE_THERE, SIZE_THERE],
+        More::Nothing,
+    ),
+    ("word", &[SPACE, ADDRESS_THERE, VALUE], More::Nothing),
+    ("discard drop", &[BUS, DIRECTION, PLANNED], More::Nothing),
+    ("mr mrl mrm", &[ADDRESS], More::Nothing),
+    ("mw mwi", &[ADDRESS], More::Data),
+    ("ior", &[PORT], More::Nothing),
+    ("iow", &[PORT, DATA], More::Nothing),
+    ("cfr", &[BUS, DEV, REGISTER], More::Nothing),
+    ("cfw", &[BUS, DEV, REGISTER, DATA], More::Nothing),
+    ("poll", &[ADDRESS, MASK, VALUE, TRIES], More::Nothing),
+    ("iopoll", &[PORT, MASK, VALUE, TRIES], More::Nothing),
+];
+
+/// The lines of devices.
+static DEVICE_FORMS: [Form; 7] = [
+    (
+        "device",
+        &[NAME, ON, TARGET, BELL_IS, PORT, VALUE, TRIES],
+        More::Nothing,
+    ),
+    (
+        "handler",
+        &[NAME, ON, BUS, WAIT_IS, PORT, VALUE, TRIES],
+        More::Nothing,
+    ),
+    ("put", &[PORT, LENGTH, SEED], More::Nothing),
+    ("get look", &[PORT], More::Nothing),
+    ("send", &[PORT, MESSAGE, VECTORS, VECTOR], More::Nothing),
+    ("wait", &[PORT, VALUE, TRIES], More::Nothing),
+    ("word", &[PORT, VALUE], More::Nothing),
+];
+
+/// What may be left out of the line of a bridge, in its order: its first word, and what stands behind.
+type Choice = (&'static str, &'static [Wanted]);
+
+static OPTIONS: [Choice; 6] = [
+    ("mem", &[BASE, LIMIT]),
+    ("pref", &[LONG_BASE, LONG_LIMIT]),
+    ("io", &[BASE, LIMIT]),
+    ("posted", &[COUNT]),
+    ("delayed", &[COUNT]),
+    ("abort", &[MODE]),
+];
+
+/// What the word of this place, from 1, of a line of a board is read as, if one may stand there.
+pub(super) fn wanted_at(line: &[u8], place: usize) -> Option<Wanted> {
+    wanted_in(form_in(&BOARD_FORMS, line)?, line, place)
+}
+
+/// The same of a line of devices.
+pub(super) fn wanted_of_device(line: &[u8], place: usize) -> Option<Wanted> {
+    wanted_in(form_in(&DEVICE_FORMS, line)?, line, place)
+}
+
+/// Whether a line of devices begins so.
+pub(super) fn is_of_devices(line: &[u8]) -> bool {
+    form_in(&DEVICE_FORMS, line).is_some()
+}
+
+/// The form of a line, by its first word.
+fn form_in(forms: &'static [Form], line: &[u8]) -> Option<&'static Form> {
+    let first = first_word(line);
+    for form in forms {
+        if is_among(first, form.0) {
+            return Some(form);
         }
-        LineWord::Operation(operation) => op_word(operation, place),
+    }
+    None
+}
+
+fn wanted_in(form: &Form, line: &[u8], place: usize) -> Option<Wanted> {
+    match (form.1.get(place.saturating_sub(1)), form.2) {
+        (Some(wanted), _) => Some(in_space(*wanted, line)),
+        (None, More::Nothing) => None,
+        (None, More::Data) => Some(DATA),
+        (None, More::Options) => {
+            let (option, within) = option_from(line, behind(form), place)?;
+            option.1.get(within.checked_sub(1)?).copied()
+        }
     }
 }
 
-fn bridge_word(line: &[u8], place: usize) -> Wanted {
-    if place >= BEHIND_BRIDGE {
-        return option_word(line, BEHIND_BRIDGE, place);
-    }
-    let words = [
-        BUS_BEHIND,
-        ON,
-        BUS,
-        Wanted::Fixed("dev"),
-        DEV,
-        Wanted::Fixed("last"),
-        BUS,
-    ];
-    one_of(place, &words)
-}
-
-fn header_word(line: &[u8], place: usize) -> Wanted {
-    if place >= BEHIND_HEADER {
-        return option_word(line, BEHIND_HEADER, place);
-    }
-    one_of(place, &[DEV, Wanted::Bytes])
-}
-
-fn range_word(line: &[u8], place: usize) -> Wanted {
-    match place {
-        1 => SPACE,
-        2 => in_space(line, "BASE"),
-        3 => in_space(line, "SIZE"),
-        _ => Wanted::Nothing,
+/// A number of the space that the second word of the line names.
+fn in_space(wanted: Wanted, line: &[u8]) -> Wanted {
+    match (wanted, word_at(line, 1)) {
+        (Wanted(word, Kind::InSpace), Some(b"mem")) => Wanted(word, Kind::Long),
+        (Wanted(word, Kind::InSpace), _) => Wanted(word, Kind::Hex(8)),
+        _ => wanted,
     }
 }
 
-fn opening_word(line: &[u8], place: usize) -> Wanted {
-    match place {
-        1 => SPACE,
-        2 => in_space(line, "ADDR"),
-        3 => VALUE,
-        _ => Wanted::Nothing,
-    }
+/// The place behind the words of a form.
+fn behind(form: &Form) -> usize {
+    form.1.len().saturating_add(1)
 }
 
-/// A number of the space that the second word names.
-fn in_space(line: &[u8], word: &'static str) -> Wanted {
-    match word_at(line, 1) {
-        Some(space) if is_word(space, b"mem") => Wanted::Long(word),
-        _ => Wanted::Hex { word, most: 8 },
-    }
+/// The first word of the option of a bridge that a place of a line of a board belongs to.
+pub(super) fn option_at(line: &[u8], place: usize) -> Option<&'static str> {
+    let form = form_in(&BOARD_FORMS, line)?;
+    let (option, _) = match form.2 {
+        More::Options => option_from(line, behind(form), place)?,
+        More::Nothing | More::Data => return None,
+    };
+    Some(option.0)
 }
 
-fn op_word(operation: Operation, place: usize) -> Wanted {
-    match operation {
-        Operation::Read => one_of(place, &[ADDRESS]),
-        Operation::Write => write_word(place),
-        Operation::ReadPort => one_of(place, &[PORT]),
-        Operation::WritePort => one_of(place, &[PORT, Wanted::Data]),
-        Operation::ReadRegister => one_of(place, &[BUS, DEV, REGISTER]),
-        Operation::WriteRegister => one_of(place, &[BUS, DEV, REGISTER, Wanted::Data]),
-        Operation::Poll => one_of(place, &[ADDRESS, MASK, VALUE, TRIES]),
-        Operation::PollPort => one_of(place, &[PORT, MASK, VALUE, TRIES]),
+/// The option that a place of a line belongs to, whose options begin at `from`, and its place there.
+fn option_from(line: &[u8], from: usize, place: usize) -> Option<(&'static Choice, usize)> {
+    let mut at = from;
+    for _ in 0..OPTIONS.len() {
+        let option = option_of(word_at(line, at)?)?;
+        let next = at.saturating_add(length_of(option, word_at(line, at.saturating_add(1))));
+        if place < next {
+            return Some((option, place.saturating_sub(at)));
+        }
+        at = next;
     }
+    None
 }
 
-/// Of a write in memory, which may have many words.
-fn write_word(place: usize) -> Wanted {
-    if place == 1 { ADDRESS } else { Wanted::Data }
+fn option_of(word: &[u8]) -> Option<&'static Choice> {
+    for option in &OPTIONS {
+        if is_word(word, option.0.as_bytes()) {
+            return Some(option);
+        }
+    }
+    None
+}
+
+/// How many words an option takes, with this second one: there is no limit behind `none`.
+fn length_of(option: &Choice, second: Option<&[u8]>) -> usize {
+    match second {
+        Some(b"none") => 2,
+        _ => option.1.len().saturating_add(1),
+    }
 }

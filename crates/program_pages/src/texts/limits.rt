@@ -1,104 +1,48 @@
-use crate::texts::line_words::{LineWord, line_word};
 use crate::texts::places::{byte_at, first_word, word_at};
-use crate::texts::text::Text;
-use board_statements::{Words, is_word};
+use board_statements::Words;
 
 /// How many bridges may be on a bus, and how many operations a master may have.
 const MOST_BRIDGES: usize = 8;
 
 const MOST_OPERATIONS: usize = 1024;
 
-/// What is passed by a line behind these.
-pub(super) fn text_of_limit(before: &[u8], line: &[u8]) -> Text {
-    Text::Plain(match line_word(line) {
-        Some(LineWord::Bridge | LineWord::Header) => text_of_bridges(before, line),
-        Some(LineWord::Target | LineWord::Master) => "a bus has at most 8 agents",
-        Some(LineWord::Range) => "a target has at most 6 base address registers",
-        Some(LineWord::Abort) => "a target has at most 6 abort ranges",
-        Some(LineWord::Word) => "a target has at most 256 opening words",
-        Some(LineWord::Discard) => "a board has at most 1,024 discards",
-        Some(LineWord::Drop) => "a board has at most 1,024 drops",
-        _ => text_of_operations(before),
-    })
-}
-
-fn text_of_bridges(before: &[u8], line: &[u8]) -> &'static str {
-    if has_eight(before, line) {
-        "a bus has at most 8 bridges"
-    } else {
-        "a board has at most 31 bridges"
-    }
-}
-
-fn text_of_operations(before: &[u8]) -> &'static str {
-    if operations_of_last(before) >= MOST_OPERATIONS {
-        "a master has at most 1,024 operations"
-    } else {
-        "a board has at most 65,536 operations, each try of a poll counted"
-    }
-}
-
 /// Whether the bus above the bridge of a line has eight bridges already.
-fn has_eight(before: &[u8], line: &[u8]) -> bool {
-    match buses_of_bridge(line) {
-        Some((above, _)) => bridges_below(before, above) >= MOST_BRIDGES,
-        None => false,
-    }
-}
-
-/// How many bridges of a text are below this bus.
-fn bridges_below(text: &[u8], bus: u8) -> usize {
+pub(super) fn has_eight_bridges(before: &[u8], line: &[u8]) -> bool {
+    let Some((bus, _)) = buses_of_bridge(line) else {
+        return false;
+    };
     let mut found: usize = 0;
-    for line in text.split(|byte| *byte == b'\n') {
-        if is_bridge_below(line, bus) {
+    for line in before.split(|byte| *byte == b'\n') {
+        if matches!(buses_of_bridge(line), Some((above, _)) if above == bus) {
             found = found.saturating_add(1);
         }
     }
-    found
-}
-
-fn is_bridge_below(line: &[u8], bus: u8) -> bool {
-    match buses_of_bridge(line) {
-        Some((above, _)) => above == bus,
-        None => false,
-    }
+    found >= MOST_BRIDGES
 }
 
 /// The buses above and below the bridge of a line, if it is the line of one.
 fn buses_of_bridge(line: &[u8]) -> Option<(u8, u8)> {
-    match line_word(line)? {
-        LineWord::Bridge => Some((byte_at(line, 3)?, byte_at(line, 1)?)),
-        LineWord::Header => buses_of_header(line),
+    match first_word(line) {
+        b"bridge" => Some((byte_at(line, 3)?, byte_at(line, 1)?)),
+        b"header" => {
+            let bytes = Words::new(word_at(line, 2)?).header().ok()?;
+            Some((*bytes.get(0x18)?, *bytes.get(0x19)?))
+        }
         _ => None,
     }
 }
 
-fn buses_of_header(line: &[u8]) -> Option<(u8, u8)> {
-    let mut words = Words::new(word_at(line, 2)?);
-    match words.header() {
-        Ok(bytes) => Some((*bytes.get(0x18)?, *bytes.get(0x19)?)),
-        Err(_) => None,
-    }
-}
-
-/// How many operations the last master of a text has.
-fn operations_of_last(text: &[u8]) -> usize {
+/// Whether the last master of a text has as many operations as it may have.
+pub(super) fn has_most_operations(text: &[u8]) -> bool {
     let mut count: usize = 0;
     for line in text.split(|byte| *byte == b'\n') {
-        count = count_with(count, first_word(line));
+        count = match first_word(line) {
+            b"master" => 0,
+            b"" => count,
+            _ => count.saturating_add(1),
+        };
     }
-    count
-}
-
-/// The count behind a line that begins with this word.
-fn count_with(count: usize, word: &[u8]) -> usize {
-    if is_word(word, b"master") {
-        0
-    } else if word.is_empty() {
-        count
-    } else {
-        count.saturating_add(1)
-    }
+    count >= MOST_OPERATIONS
 }
 
 /// The first bus of a board text that a line names and that is not there, and the number of that
@@ -114,32 +58,22 @@ pub fn bus_not_there(text: &[u8]) -> Option<(u32, u8)> {
     None
 }
 
-/// The bus that a bridge is below or an agent is on, or of a discard or drop that of its bridge,
-/// where it is not there.
+/// The bus that a bridge is below or an agent is on, where it is not there, as bus 0 always is; or
+/// of a discard or drop that of its bridge.
 fn missing_bus(text: &[u8], line: &[u8]) -> Option<u8> {
-    match line_word(line)? {
-        LineWord::Bridge | LineWord::Header => {
+    let (bus, is_there) = match first_word(line) {
+        b"bridge" | b"header" => {
             let (above, _) = buses_of_bridge(line)?;
-            unless_there(text, above)
+            (above, above == 0)
         }
-        LineWord::Target | LineWord::Master => unless_there(text, byte_at(line, 3)?),
-        LineWord::Discard | LineWord::Drop => unless_bridge(text, byte_at(line, 1)?),
-        _ => None,
-    }
-}
-
-/// The bus, where it is not there: bus 0 always is.
-fn unless_there(text: &[u8], bus: u8) -> Option<u8> {
-    if bus == 0 {
-        None
-    } else {
-        unless_bridge(text, bus)
-    }
-}
-
-/// The bus, where no bridge of a text is one to it.
-fn unless_bridge(text: &[u8], bus: u8) -> Option<u8> {
-    if has_bridge(text, bus) {
+        b"target" | b"master" => {
+            let bus = byte_at(line, 3)?;
+            (bus, bus == 0)
+        }
+        b"discard" | b"drop" => (byte_at(line, 1)?, false),
+        _ => return None,
+    };
+    if is_there || has_bridge(text, bus) {
         None
     } else {
         Some(bus)
@@ -149,16 +83,9 @@ fn unless_bridge(text: &[u8], bus: u8) -> Option<u8> {
 /// Whether a bridge of a text is one to this bus.
 fn has_bridge(text: &[u8], bus: u8) -> bool {
     for line in text.split(|byte| *byte == b'\n') {
-        if is_bridge_to(line, bus) {
+        if matches!(buses_of_bridge(line), Some((_, below)) if below == bus) {
             return true;
         }
     }
     false
-}
-
-fn is_bridge_to(line: &[u8], bus: u8) -> bool {
-    match buses_of_bridge(line) {
-        Some((_, below)) => below == bus,
-        None => false,
-    }
 }

@@ -1,4 +1,4 @@
-use board_statements::Words;
+use board_statements::{Words, is_word};
 
 /// The word of this place of a line, from 0.
 pub(super) fn word_at(line: &[u8], place: usize) -> Option<&[u8]> {
@@ -17,6 +17,16 @@ pub(super) fn count_words(line: &[u8]) -> usize {
 /// The first word of a line, of a line without words none.
 pub(super) fn first_word(line: &[u8]) -> &[u8] {
     word_at(line, 0).unwrap_or(b"")
+}
+
+/// Whether a word is one of these, between which a space stands each.
+pub(super) fn is_among(word: &[u8], words: &str) -> bool {
+    for one in words.as_bytes().split(|byte| *byte == b' ') {
+        if is_word(word, one) {
+            return true;
+        }
+    }
+    false
 }
 
 /// A decimal number of a byte at this place of a line.

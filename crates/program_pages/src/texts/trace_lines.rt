@@ -1,22 +1,25 @@
-use crate::texts::bytes::{BYTE_ORDER_MARK, CARRIAGE_RETURN, is_end_of_line};
-use crate::texts::places::first_word;
-use board_statements::is_word;
+use crate::texts::sentences::{BYTE_ORDER_MARK, CARRIAGE_RETURN, Row, is_end_of_line, said};
 
-/// The first line of a text is not that of a trace.
+/// The first line is that of another text.
+static NO_FIRST_LINE: [Row; 2] = [
+    (
+        "pciboard",
+        "this is a board, and a trace is wanted: pcitree run FILE writes one",
+    ),
+    (
+        "pcidevices",
+        "this is a device text, and a trace is wanted: pcitree devices FILE writes one",
+    ),
+];
+
+/// What is said of the first line of a text that is not that of a trace.
 pub fn no_trace_text(input: &[u8], line: &[u8]) -> &'static str {
-    let word = first_word(line);
-    if is_word(word, b"pciboard") {
-        "this is a board, and a trace is wanted: pcitree run FILE writes one"
-    } else if is_word(word, b"pcidevices") {
-        "this is a device text, and a trace is wanted: pcitree devices FILE writes one"
-    } else if line == b"pcitrace 1\r".as_slice() {
-        CARRIAGE_RETURN
-    } else if line == b"\xef\xbb\xbfpcitrace 1".as_slice() {
-        BYTE_ORDER_MARK
-    } else if input.is_empty() {
-        "the file is empty: a trace begins with pcitrace 1"
-    } else {
-        "a trace begins with the line pcitrace 1"
+    match said(&NO_FIRST_LINE, line) {
+        Some(text) => text,
+        None if line == b"pcitrace 1\r".as_slice() => CARRIAGE_RETURN,
+        None if line == b"\xef\xbb\xbfpcitrace 1".as_slice() => BYTE_ORDER_MARK,
+        None if input.is_empty() => "the file is empty: a trace begins with pcitrace 1",
+        None => "a trace begins with the line pcitrace 1",
     }
 }
 

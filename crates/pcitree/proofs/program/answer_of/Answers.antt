@@ -1,6 +1,5 @@
 use denote.Param.Send.{sendable}
-use Rattle.std.proofs.Common.{ℕ, ◌<◌, ◌^◌, List, length, IfOk, IfErr, sym, subst, ap, ◌∙◌, map}
-use Rattle.std.specs.Prelude.{string_bytes}
+use Rattle.std.proofs.Common.{ℕ, ◌<◌, ◌^◌, List, length, IfOk, IfErr, sym, subst, ap, ◌∙◌}
 use Rattle.std.proofs.lemmas.Result.{IfOk-weaker, IfErr-weaker}
 use Rattle.std.specs.Option.{option_map}
 use Rattle.pcitree.specs.Answers.{AnswersTo, Refuses}
@@ -23,12 +22,12 @@ answer-requires-clause-given g c = λ κs within.
 pub returns-in-Some-clause-ok : goal.returns-in-Some-clause-ok
 returns-in-Some-clause-ok g c =
     IfOk-weaker _ _ _ (λ answer. number_answered c.args.form _ _ _ _ answer.text.items answer.ending c.requires (sym c.number_of.ensures.value ∙ ap (option_map (λ n. n.now)) c.in-Some.is))
-    (subst (λ (l : List ℕ). IfOk c.answer.result (λ answer. AnswersTo c.args.form (map string_bytes c.args.words.now) l answer.text.items answer.ending)) c.as_bytes.ensures.value c.answer.ensures.ok)
+    (subst (λ (l : List ℕ). IfOk c.answer.result (λ answer. AnswersTo c.args.form c.args.words.now l answer.text.items answer.ending)) c.as_bytes.ensures.value c.answer.ensures.ok)
 
 pub returns-in-Some-clause-stopped : goal.returns-in-Some-clause-stopped
 returns-in-Some-clause-stopped g c =
     IfErr-weaker _ _ _ (λ status. number_refused c.args.form _ _ _ _ _ _ status c.requires (sym c.number_of.ensures.value ∙ ap (option_map (λ n. n.now)) c.in-Some.is))
-    (subst (λ (l : List ℕ). IfErr c.answer.result (Refuses c.args.form (map string_bytes c.args.words.now) l)) c.as_bytes.ensures.value c.answer.ensures.err)
+    (subst (λ (l : List ℕ). IfErr c.answer.result (Refuses c.args.form c.args.words.now l)) c.as_bytes.ensures.value c.answer.ensures.err)
 
 -- The file that the source reads.
 

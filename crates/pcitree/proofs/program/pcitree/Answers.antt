@@ -20,6 +20,9 @@ returns-in-Ok-clause-read_fault g c = λ is. success_only _ _ Reading (succeeded
 pub returns-in-Ok-clause-write_fault : goal.returns-in-Ok-clause-write_fault
 returns-in-Ok-clause-write_fault g c = λ is. success_only _ _ Writing (succeeded _ _ _ _ _ _ _ c.in-Ok.ensures.form c.in-Ok.ensures.done) (λ e. cc) (ap subject_of is)
 
+pub returns-in-Ok-clause-clean : goal.returns-in-Ok-clause-clean
+returns-in-Ok-clause-clean g c = λ _. c.in-Ok.ensures.clean
+
 pub returns-in-Ok-clause-unwritten : goal.returns-in-Ok-clause-unwritten
 returns-in-Ok-clause-unwritten g c = λ before. absurd (before.0 (succeeded _ _ _ _ _ _ _ c.in-Ok.ensures.form c.in-Ok.ensures.done))
 
@@ -52,6 +55,9 @@ returns-in-Err-clause-read_fault g c = λ is. read_failed _ _ _ _ _ _ _ _ _ _ _ 
 
 pub returns-in-Err-clause-write_fault : goal.returns-in-Err-clause-write_fault
 returns-in-Err-clause-write_fault g c = λ is. (write_failed _ _ _ _ _ _ _ _ _ _ _ _ _ c.in-Err.ensures.stopped is).0
+
+pub returns-in-Err-clause-clean : goal.returns-in-Err-clause-clean
+returns-in-Err-clause-clean g c = λ is. absurd (not_done _ _ _ _ _ _ _ _ _ _ _ _ _ c.in-Err.ensures.stopped is)
 
 pub returns-in-Err-clause-unwritten : goal.returns-in-Err-clause-unwritten
 returns-in-Err-clause-unwritten g c = λ before. unwritten _ _ _ _ _ _ _ _ _ _ _ _ _ c.in-Err.ensures.stopped before

@@ -1,6 +1,5 @@
 ghost use Rattle.std.specs.Prelude.{◌<◌, ◌^◌, length};
 
-use crate::form::InputForm;
 use crate::refused::{TOO_LONG, board_part, smallest, word_lines};
 use crate::unclear::tell_unclear;
 use board_parser::{ParseFault, parse, word_at_fault};
@@ -10,6 +9,7 @@ use program_pages::{
     text_of_device, text_of_line,
 };
 use program_status::{BoardFault, Status};
+use program_words::Reads;
 use std::alloc::Global;
 use text_faults::{DeviceFault, LineFault, TreeFault};
 
@@ -20,19 +20,19 @@ const NO_LINE_OF_A_LOG: &str = "no log has this line: what was done stands behin
 const MOST_SHOWN: u32 = 8;
 
 /// A board is refused: the word at fault of a line, or the lines that have a fault together.
-pub(crate) fn tell_board(
+pub fn tell_board(
     teller: &mut Teller,
     input: &[u8],
-    form: InputForm,
+    reads: Reads,
     status: &Status,
     number: u32,
     fault: BoardFault,
 ) -> Result<(), NoMemory> {
-    let text = board_part(teller.alloc(), input, form)?;
+    let text = board_part(teller.alloc(), input, reads)?;
     let sentence = teller.sentence()?;
     let refused = RefusedBoard {
         input,
-        form,
+        reads,
         text: text.as_slice(),
         number,
         sentence: sentence.as_str(),
@@ -40,12 +40,12 @@ pub(crate) fn tell_board(
     tell_fault(teller, &refused, status, fault)
 }
 
-/// A board that is refused: the input and its form, the text of the board in it, and the number of a
-/// line and the sentence of the fault.
+/// A board that is refused: the input and as what it is read, the text of the board in it, and the
+/// number of a line and the sentence of the fault.
 #[derive(Clone, Copy)]
 struct RefusedBoard<'a> {
     input: &'a [u8],
-    form: InputForm,
+    reads: Reads,
     text: &'a [u8],
     number: u32,
     sentence: &'a str,
@@ -65,7 +65,7 @@ fn tell_fault(
         ..
     } = *refused;
     match fault {
-        BoardFault::Line(LineFault::WrongWord) if refused.form == InputForm::Log => {
+        BoardFault::Line(LineFault::WrongWord) if refused.reads == Reads::Log => {
             tell_wrong_word(teller, text, number, sentence)
         }
         BoardFault::Line(fault) => tell_line(teller, text, number, fault, sentence),

@@ -3,7 +3,7 @@ use program_pages::{Fault, Teller, line_at};
 use text_faults::LspciFault;
 
 /// A line of what `lspci` wrote is at fault.
-pub(crate) fn tell_machine_line(
+pub fn tell_machine_line(
     teller: &mut Teller,
     input: &[u8],
     number: u32,

@@ -1,5 +1,4 @@
-use crate::event::place_of_piece;
-use crate::form::InputForm;
+use crate::piece::place_of_piece;
 use crate::refused::{TOO_LONG, board_part};
 use board_model::Board;
 use board_parser::{ParseFault, parse};
@@ -10,13 +9,14 @@ use program_pages::{
     Fault, Piece, Teller, find_line, line_at, misread_text, no_events_text, no_trace_text,
     operation_text, unreadable_text,
 };
+use program_words::Reads;
 use std::alloc::Global;
 use std::str::from_utf8;
 use text_faults::TraceLineFault;
 use trace_reader::{Names, read_line};
 
 /// A line of a trace outside its board is at fault.
-pub(crate) fn tell_trace_line(
+pub fn tell_trace_line(
     teller: &mut Teller,
     input: &[u8],
     number: u32,
@@ -118,7 +118,7 @@ fn tell_unknown(
 /// that is at fault: a line with this word alone, and words of every board in place of the others,
 /// is not read. Of an arrival, the lane or else the bus.
 fn first_unknown(teller: &Teller, input: &[u8], line: &[u8]) -> Result<Unknown, NoMemory> {
-    let text = board_part(teller.alloc(), input, InputForm::Trace(Rule::Tagged))?;
+    let text = board_part(teller.alloc(), input, Reads::Trace(Rule::Tagged))?;
     if text.len() >= TOO_LONG {
         return Ok(Unknown::plain(0));
     }

@@ -1,6 +1,6 @@
 use Rattle.std.proofs.Common.{◌≡◌, ◌<◌, Some}
 use Rattle.program_input.specs.Refusals.{board_refusal}
-use Rattle.program_messages.proofs.refused.leaving_out.sweep.Given as goal
+use Rattle.message_texts.proofs.refused.leaving_out.sweep.Given as goal
 
 -- the text is refused with the same status
 abbrev pub invariant-loop-end : goal.invariant-loop-end

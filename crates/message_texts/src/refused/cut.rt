@@ -1,8 +1,8 @@
-use crate::form::InputForm;
 use board_statements::has_words;
 use board_text::next_line;
 use pci_command::NoMemory;
 use program_pages::find_line;
+use program_words::Reads;
 use std::alloc::Global;
 
 /// A text in which every byte from one place to another but its newlines is a space, so that its
@@ -23,16 +23,16 @@ pub fn without_lines(
     Ok(other)
 }
 
-/// The board text of an input of this form, each line with the number that it has in the input: of a
+/// The board text of an input that is read so, each line with the number that it has in the input: of a
 /// trace the part between its first line, which is blank here, and the line `events`, of a log that
 /// up to the line `log`, and of a text of devices that up to the line `devices`.
-pub fn board_part(alloc: Global, input: &[u8], form: InputForm) -> Result<Vec<u8>, NoMemory> {
-    match (form, next_line(input, 0)) {
-        (InputForm::Trace(_) | InputForm::Filled, Some((b"pcitrace 1", next))) => {
+pub fn board_part(alloc: Global, input: &[u8], reads: Reads) -> Result<Vec<u8>, NoMemory> {
+    match (reads, next_line(input, 0)) {
+        (Reads::Trace(_) | Reads::Filled, Some((b"pcitrace 1", next))) => {
             board_between(alloc, input, next, b"events")
         }
-        (InputForm::Log, Some((_, next))) => board_between(alloc, input, next, b"log"),
-        (InputForm::Protocol, Some((b"pcidevices 1", next))) => {
+        (Reads::Log, Some((_, next))) => board_between(alloc, input, next, b"log"),
+        (Reads::Protocol, Some((b"pcidevices 1", next))) => {
             board_between(alloc, input, next, b"devices")
         }
         _ => Ok(input.to_vec(alloc)?),

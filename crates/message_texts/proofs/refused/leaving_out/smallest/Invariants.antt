@@ -1,6 +1,6 @@
 use Rattle.std.proofs.Common.{◌≡◌, Some}
 use Rattle.program_input.specs.Refusals.{board_refusal}
-use Rattle.program_messages.proofs.refused.leaving_out.smallest.Given as goal
+use Rattle.message_texts.proofs.refused.leaving_out.smallest.Given as goal
 
 -- what is left is refused with the same status
 abbrev pub invariant-loop-size : goal.invariant-loop-size

@@ -2,7 +2,7 @@ ghost use Rattle.std.specs.Prelude.{IfOk, IsTrue};
 ghost use Rattle.std.specs.List.{list_all};
 ghost use Rattle.program_pages.specs.shown.Shown.{is_shown};
 
-use crate::about;
+use crate::notes::about;
 use pci_command::NoMemory;
 use program_pages::Message;
 use std::alloc::Global;
