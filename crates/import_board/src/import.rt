@@ -5,9 +5,8 @@ use import_text::Function;
 use pci_command::{List, NoMemory};
 use std::alloc::Global;
 
-/// A board text of the machine of these functions, below the least bus of its least domain. What is
-/// on it, and with what reason what is left out, is judged by `is_machine`, and shown by rows: nothing is claimed
-/// of the text itself.
+/// A board text of the machine of these functions, below the least bus of its least domain. Nothing
+/// is claimed of it: once it is read, `is_machine` judges its board.
 pub fn import_board(alloc: Global, functions: &[Function]) -> Result<List<u8>, NoMemory> {
     let machine = machine_of(alloc, first_root(functions), functions)?;
     let fates = bridge_fates(alloc, &machine)?;

@@ -1,7 +1,8 @@
 ghost use Rattle.std.specs.Prelude.{◌≤◌, length};
 
+use crate::fate::Placed;
 use crate::functions::functions_behind;
-use crate::{Device, DeviceFate, Judged, Placed, RangeFate};
+use crate::{Device, DeviceFate, Judged, RangeFate};
 use import_bridges::{DevicePlace, Machine, TakenBridge, device_number, is_led_to, place_of};
 use import_text::Function;
 use pci_command::{List, NoMemory};

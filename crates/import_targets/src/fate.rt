@@ -40,7 +40,7 @@ pub struct Judged {
 
 /// A range that is taken: its bus by the text, and its addresses.
 #[derive(Clone, Copy, Debug, PartialEq, Eq)]
-pub struct Placed {
+pub(crate) struct Placed {
     pub bus: u8,
     pub space: Space,
     pub span: Window,

@@ -1,6 +1,7 @@
+use crate::fate::Placed;
 use crate::found::found_in;
 use crate::ranges::{Before, range_fate, registers_for};
-use crate::{FoundFunction, Judged, NoRange, Placed, RangeFate};
+use crate::{FoundFunction, Judged, NoRange, RangeFate};
 use import_bridges::TakenBridge;
 use import_text::Function;
 use pci_command::{List, NoMemory, Space};

@@ -2,7 +2,8 @@ ghost use Rattle.std.specs.Prelude.{◌≡◌, ◌<◌, ◌≤◌, IsTrue, IfNon
 ghost use Rattle.import_targets.specs.Ranges.{unit_of, rounded_base, rounded_end, end_of_space};
 ghost use Rattle.import_targets.specs.Ranges.{size_or_zero, fits, does_fit, span_of, registers_for};
 
-use crate::{FoundFunction, NoRange, Placed, RangeFate};
+use crate::fate::Placed;
+use crate::{FoundFunction, NoRange, RangeFate};
 use board_model::Window;
 use import_bridges::{TakenBridge, decodes, first_passing, is_reached, shares};
 use import_text::Function;

@@ -13,8 +13,8 @@ use std::alloc::Global;
 use text_faults::LspciFault;
 
 /// The board text of the machine of which `lspci -vvxxx` wrote these bytes, below the least bus of
-/// its least domain. Before it is answered it is read, and judged by the functions that `lspci` wrote
-/// of: it is the text of a valid board, of at most 1 MiB, and the board is that of the machine.
+/// its least domain. Before it is answered it is read, and judged by the functions that were read:
+/// it is the text of a valid board, of at most 1 MiB, and the board is that of the machine.
 pub fn answer_import(alloc: Global, input: &[u8]) -> Result<Vec<u8>, Status>
     requires { length input.now < 2 ^ 31 }
     ensures ok { IfOk result (λ text. AnswersImport input.now text.items) }

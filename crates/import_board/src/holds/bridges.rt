@@ -1,12 +1,14 @@
 //! Bridges: each of the board is that of a function, and each function's is on the board, or has no
 //! place there.
-ghost use Rattle.std.specs.Prelude.{◌≡◌, ◌==◌, ◌&&◌, not, nat_le, length};
+ghost use Rattle.std.specs.Prelude.{◌≡◌, ◌==◌, ◌&&◌, not, if◌then◌else◌};
 ghost use Rattle.std.specs.Option.{option_copied};
 ghost use Rattle.std.specs.List.{list_all, list_any};
 ghost use Rattle.board_model.specs.WellFormed.{children_on};
-ghost use Rattle.import_board.specs.Machine.{decoded, is_window_barred, is_window_told, has_numbers};
-ghost use Rattle.import_board.specs.Machine.{has_windows, is_bridge_by, is_bridge_told, shares_buses};
-ghost use Rattle.import_board.specs.Machine.{passes_some, passes_above, are_buses_barred, is_full};
+ghost use Rattle.board_headers.specs.Windows.{windows_of};
+ghost use Rattle.import_board.specs.Machine.{decoded, is_window_barred, is_window_told};
+ghost use Rattle.import_board.specs.Machine.{has_numbers, has_windows, is_bridge_by};
+ghost use Rattle.import_board.specs.Machine.{is_bridge_told, shares_buses, passes_some};
+ghost use Rattle.import_board.specs.Machine.{passes_above, are_buses_barred, is_full};
 ghost use Rattle.import_board.specs.Machine.{is_bridge_kept};
 
 use crate::holds::buses::{has_no_number, is_bridge_of, place_of};

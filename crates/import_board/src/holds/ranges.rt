@@ -3,8 +3,9 @@ ghost use Rattle.std.specs.Prelude.{◌≡◌, ◌==◌, count_by};
 ghost use Rattle.std.specs.List.{list_all, list_any};
 ghost use Rattle.import_targets.specs.Registers.{found_in};
 ghost use Rattle.import_targets.specs.Ranges.{span_of};
-ghost use Rattle.import_board.specs.Machine.{passes_some, claims_some, is_span_barred, has_no_room};
-ghost use Rattle.import_board.specs.Machine.{meets_range, has_all_targets, has_no_target, has_range};
+ghost use Rattle.import_board.specs.Machine.{passes_some, claims_some, is_span_barred};
+ghost use Rattle.import_board.specs.Machine.{has_no_room, meets_range, has_all_targets};
+ghost use Rattle.import_board.specs.Machine.{has_no_target, has_range};
 ghost use Rattle.import_board.specs.Machine.{is_asked_by, is_of_target, is_range_kept};
 ghost use Rattle.import_board.specs.Machine.{are_ranges_kept};
 

@@ -66,11 +66,7 @@ pub(crate) fn passes_some(bus: u8, space: Space, window: Window, bridge: &Bridge
 pub(crate) fn meets_range(space: Space, span: Window, range: &Range) -> bool
     ensures { result ≡ meets_range space span range.now }
 {
-    range.space == space && u128::from(span.base) <= last_of(range) && range.base <= span.limit
-}
-
-fn last_of(range: &Range) -> u128
-    ensures { result ≡ last_of range.now }
-{
-    u128::from(range.base) + u128::from(range.size.saturating_sub(1))
+    let more = range.size.saturating_sub(1);
+    let last = u128::from(range.base) + u128::from(more);
+    range.space == space && u128::from(span.base) <= last && range.base <= span.limit
 }
