@@ -1,5 +1,5 @@
-//! Whether a board is that of the machine of which `lspci` wrote. It is judged by the functions that
-//! were read; how it was made is not asked.
+//! Whether a board is that of the machine of which `lspci` wrote, judged by the functions that were
+//! read; how it was made is not asked.
 ghost use Rattle.std.specs.Prelude.{IsTrue};
 ghost use Rattle.import_bridges.specs.Functions.{first_root};
 ghost use Rattle.import_board.specs.Machine.{IsMachine};
