@@ -269,7 +269,14 @@ has_nothing_else board =
     length board.masters == 0 && (length board.discards == 0 && (length board.drops == 0
     && (list_all is_plain_bridge board.bridges && list_all is_plain_target board.targets)))
 
--- the board is that of the machine of these functions, below the root
+-- the board is that of the machine of these functions, below the root: what is computed
+abbrev pub is_machine : Root → List Function → Board → Bool
+is_machine root functions board =
+    list_all (is_bridge_told root functions board) board.bridges && (list_all (is_target_told root functions) board.targets
+    && (list_all (is_bridge_kept root functions board) functions && (list_all (are_ranges_kept root functions board) functions
+    && has_nothing_else board)))
+
+-- the same, by name
 pub record IsMachine (root : Root) (functions : List Function) (board : Board) : Type 0 where
   -- each bridge of the board is that of a function, with its buses, its mode and its windows
   pub bridges : list_all (is_bridge_told root functions board) board.bridges ≡ true

@@ -8,7 +8,7 @@ use Rattle.import_text.specs.Functions.{functions_read}
 use Rattle.import_bridges.specs.Functions.{first_root}
 use Rattle.import_board.specs.Machine.{IsMachine}
 use Rattle.program_status.specs.declared.status.Status.{Status}
-use Rattle.program_status.specs.declared.status.Status.TheVariants.{BadMachine}
+use Rattle.program_status.specs.declared.status.Status.TheVariants.{NoMemory, BadMachine}
 use Rattle.program_input.specs.Boards.{ReadsBoard}
 use Rattle.program_input.specs.Refusals.{RefusesBy}
 
@@ -38,10 +38,18 @@ fault_told (Err fault) = Some (BadMachine fault.0 fault.1)
 abbrev pub machine_refusal : List ℕ → Option Status
 machine_refusal input = fault_told (functions_read input)
 
--- I5, with line 0, for an input without fault: of why nothing is said
+-- I5, with line 0
+abbrev pub given_up : Status
+given_up = BadMachine 0 NoBoard
+
+-- why nothing is written for functions that were read: for want of memory, or they are given up
+abbrev pub IsUntold : Status → Type 0
+IsUntold status = (status ≡ NoMemory) ⊎ (status ≡ given_up)
+
+-- an input without fault is given up: of why nothing is said
 pub record GivesUp (input : List ℕ) (status : Status) : Type 0 where
   pub faultless : machine_refusal input ≡ None
-  pub told : status ≡ BadMachine 0 NoBoard
+  pub told : status ≡ given_up
 
 -- it is refused with this status, by its first fault or for want of memory, or given up
 abbrev pub RefusesImport : List ℕ → Status → Type 0
