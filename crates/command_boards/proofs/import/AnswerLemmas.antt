@@ -33,6 +33,9 @@ tells_machine functions read text board judged same is reads within machine =
       machine = subst (λ (b : Board). IsMachine (first_root functions) functions b) is machine;
     }
 
+-- what a text that is written wants
+pub ruleset of_text = (no_memory_untold, given_up_untold, tells_machine)
+
 -- what has a fault is refused by it
 pub read_refuses : (input : List ℕ) (status : Status) → RefusesBy (machine_refusal input) status → RefusesImport input status
 read_refuses input status refuses = inl refuses

@@ -44,7 +44,7 @@ fn functions_of(alloc: Global, input: &[u8]) -> Result<List<Function>, Status>
 }
 
 /// The board text of the machine of these functions, read and judged.
-#[tactic(auto, using(crate::proofs::import::AnswerLemmas::of_untold, crate::proofs::import::AnswerLemmas::tells_machine))]
+#[tactic(auto, using(crate::proofs::import::AnswerLemmas::of_text))]
 fn text_of(alloc: Global, functions: &[Function]) -> Result<Vec<u8>, Status>
     ensures ok { IfOk result (λ text. TellsMachine functions.now text.items) }
     ensures err { IfErr result IsUntold }
