@@ -67,7 +67,8 @@ pub fn pcitree<R: Threads + Sync, S: Source, K: Sink, G: Gate + Sync>(
     ensures served { (form : WordForm) (input : List ℕ) → form_of (map string_bytes words.now) ≡ Some form
         → given form (map string_bytes words.now) (S.held source.old) ≡ Some input → IsServed form (map string_bytes words.now) input → Serves result }
     // What `lspci` wrote is answered too, or it is given up (I5).
-    ensures served_import { (input : List ℕ) → form_of (map string_bytes words.now) ≡ Some WordForm.Import
+    ensures served_import { (input : List ℕ)
+        → form_of (map string_bytes words.now) ≡ Some WordForm.Import
         → given WordForm.Import (map string_bytes words.now) (S.held source.old) ≡ Some input
         → IsServedMachine input → Serves result ⊎ GivesUp input result }
 {
