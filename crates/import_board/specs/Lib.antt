@@ -1,3 +1,1 @@
-pub mod Counts
-pub mod Text
-pub mod Import
+pub mod Machine

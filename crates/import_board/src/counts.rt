@@ -1,71 +1,43 @@
-ghost use Rattle.std.specs.Prelude.{◌≡◌, ◌≤◌, ◌+◌, ◌*◌, ◌||◌, ◌&&◌, length, not};
-ghost use Rattle.std.specs.List.{list_any, count_by};
-ghost use Rattle.list_facts.specs.Lists.{total};
-ghost use Rattle.import_targets.specs.Devices.{is_target, is_placed, claims_something};
-ghost use Rattle.import_targets.specs.Registers.{found_in};
-ghost use Rattle.import_board.specs.Counts.{capped, is_taken, is_closed, one_if, windows_left};
-ghost use Rattle.import_board.specs.Counts.{own_ranges, ranges_placed, ranges_not_placed};
-ghost use Rattle.import_board.specs.Counts.{ranges_taken, is_lost, ranges_left, functions_left};
-ghost use Rattle.import_board.specs.Counts.{is_far, has_far_window, is_far_bridge, is_far_range};
-ghost use Rattle.import_board.specs.Counts.{has_far_range, is_far_device};
-
 use board_model::Window;
 use import_bridges::{BridgeFate, Machine, WindowFate};
 use import_targets::{
-    Device, DeviceFate, Judged, RangeFate, claims_something, found_count, is_placed,
+    Device, DeviceFate, Judged, RangeFate, claims_something, found_in, is_placed,
 };
 use import_text::Function;
 use pci_command::List;
 
-pub(crate) fn is_taken(fate: &BridgeFate) -> bool
-    ensures { result ≡ is_taken fate.now }
-{
+pub(crate) fn is_taken(fate: &BridgeFate) -> bool {
     matches!(fate, BridgeFate::Taken(_))
 }
 
-pub(crate) fn is_target(fate: DeviceFate) -> bool
-    ensures { result ≡ is_target fate }
-{
+pub(crate) fn is_target(fate: DeviceFate) -> bool {
     matches!(fate, DeviceFate::Target(_))
 }
 
-pub(crate) fn is_lost(fate: DeviceFate) -> bool
-    ensures { result ≡ is_lost fate }
-{
+pub(crate) fn is_lost(fate: DeviceFate) -> bool {
     matches!(fate, DeviceFate::NoWay)
 }
 
-fn is_closed(fate: WindowFate) -> bool
-    ensures { result ≡ is_closed fate }
-{
+fn is_closed(fate: WindowFate) -> bool {
     matches!(fate, WindowFate::Closed(..))
 }
 
-pub(crate) fn bridges_taken(fates: &[BridgeFate]) -> usize
-    ensures { result ≡ count_by is_taken fates.now }
-{
+pub(crate) fn bridges_taken(fates: &[BridgeFate]) -> usize {
     fates.iter().filter(|fate| is_taken(fate)).count()
 }
 
-fn bridges_left(fates: &[BridgeFate]) -> usize
-    ensures { result ≡ count_by (λ fate. not (is_taken fate)) fates.now }
-{
+fn bridges_left(fates: &[BridgeFate]) -> usize {
     fates.iter().filter(|fate| !is_taken(fate)).count()
 }
 
-pub(crate) fn targets_taken(devices: &[Device]) -> usize
-    ensures { result ≡ count_by (λ device. is_target device.fate) devices.now }
-{
+pub(crate) fn targets_taken(devices: &[Device]) -> usize {
     devices
         .iter()
         .filter(|device| is_target(device.fate))
         .count()
 }
 
-fn windows_left_of(fate: &BridgeFate) -> u64
-    ensures value { result ≡ windows_left fate.now }
-    ensures few { result ≤ 3 }
-{
+fn windows_left_of(fate: &BridgeFate) -> u64 {
     match fate {
         BridgeFate::LeftOut(_) => 0,
         BridgeFate::Taken(bridge) => {
@@ -76,102 +48,64 @@ fn windows_left_of(fate: &BridgeFate) -> u64
     }
 }
 
-#[tactic(auto, using(crate::proofs::CountLemmas::of_sums))]
-pub(crate) fn windows_left(fates: &[BridgeFate]) -> u64
-    ensures { result ≡ capped (total windows_left fates.now) }
-{
+pub(crate) fn windows_left(fates: &[BridgeFate]) -> u64 {
     let mut count = 0_u64;
-    let mut left = fates;
-    while let [fate, behind @ ..] = left {
+    for fate in fates {
         count = count.saturating_add(windows_left_of(fate));
-        left = behind;
     }
     count
 }
 
-fn own_ranges_of(function: &Function, fate: &BridgeFate) -> u64
-    ensures { result ≡ capped (one_if (is_taken fate.now) * length (found_in function.now)) }
-{
+fn own_ranges_of(function: &Function, fate: &BridgeFate) -> u64 {
     if is_taken(fate) {
-        found_count(function) as u64
+        found_in(function).len() as u64
     } else {
         0
     }
 }
 
 /// How many own ranges the bridges have that are taken.
-#[tactic(auto, using(crate::proofs::CountLemmas::of_sums))]
-fn own_ranges(functions: &[Function], fates: &[BridgeFate]) -> u64
-    ensures { result ≡ capped (own_ranges functions.now fates.now) }
-{
+fn own_ranges(functions: &[Function], fates: &[BridgeFate]) -> u64 {
     let mut count = 0_u64;
-    let mut left = functions;
-    let mut fates_left = fates;
-    while let [function, behind @ ..] = left {
-        let [fate, fates_behind @ ..] = fates_left else {
-            return count;
-        };
+    for (function, fate) in functions.iter().zip(fates) {
         count = count.saturating_add(own_ranges_of(function, fate));
-        left = behind;
-        fates_left = fates_behind;
     }
     count
 }
 
-fn count_placed(judged: &[Judged]) -> usize
-    ensures { result ≡ ranges_placed judged.now }
-{
+fn count_placed(judged: &[Judged]) -> usize {
     judged.iter().filter(|one| is_placed(one.fate)).count()
 }
 
-fn count_not_placed(judged: &[Judged]) -> usize
-    ensures { result ≡ ranges_not_placed judged.now }
-{
+fn count_not_placed(judged: &[Judged]) -> usize {
     judged.iter().filter(|one| !is_placed(one.fate)).count()
 }
 
-#[tactic(auto, using(crate::proofs::CountLemmas::of_sums))]
-fn placed_in(functions: &[List<Judged>]) -> u64
-    ensures { result ≡ capped (total ranges_placed functions.now) }
-{
+fn placed_in(functions: &[List<Judged>]) -> u64 {
     let mut count = 0_u64;
-    let mut left = functions;
-    while let [judged, behind @ ..] = left {
+    for judged in functions {
         count = count.saturating_add(count_placed(judged.as_slice()) as u64);
-        left = behind;
     }
     count
 }
 
-#[tactic(auto, using(crate::proofs::CountLemmas::of_sums))]
-fn not_placed_in(functions: &[List<Judged>]) -> u64
-    ensures { result ≡ capped (total ranges_not_placed functions.now) }
-{
+fn not_placed_in(functions: &[List<Judged>]) -> u64 {
     let mut count = 0_u64;
-    let mut left = functions;
-    while let [judged, behind @ ..] = left {
+    for judged in functions {
         count = count.saturating_add(count_not_placed(judged.as_slice()) as u64);
-        left = behind;
     }
     count
 }
 
-#[tactic(auto, using(crate::proofs::CountLemmas::of_sums))]
-fn all_in(functions: &[List<Judged>]) -> u64
-    ensures { result ≡ capped (total length functions.now) }
-{
+fn all_in(functions: &[List<Judged>]) -> u64 {
     let mut count = 0_u64;
-    let mut left = functions;
-    while let [judged, behind @ ..] = left {
+    for judged in functions {
         count = count.saturating_add(judged.as_slice().len() as u64);
-        left = behind;
     }
     count
 }
 
-fn taken_of(device: &Device) -> u64
-    ensures { result ≡ capped (ranges_taken device.now) }
-{
+fn taken_of(device: &Device) -> u64 {
     if is_target(device.fate) {
         placed_in(device.functions.as_slice())
     } else {
@@ -179,9 +113,7 @@ fn taken_of(device: &Device) -> u64
     }
 }
 
-fn left_of(device: &Device) -> u64
-    ensures { result ≡ capped (ranges_left device.now) }
-{
+fn left_of(device: &Device) -> u64 {
     let functions = device.functions.as_slice();
     if is_target(device.fate) {
         not_placed_in(functions)
@@ -192,51 +124,34 @@ fn left_of(device: &Device) -> u64
     }
 }
 
-#[tactic(auto, using(crate::proofs::CountLemmas::of_sums))]
-pub(crate) fn ranges_taken(devices: &[Device]) -> u64
-    ensures { result ≡ capped (total ranges_taken devices.now) }
-{
+pub(crate) fn ranges_taken(devices: &[Device]) -> u64 {
     let mut count = 0_u64;
-    let mut left = devices;
-    while let [device, behind @ ..] = left {
+    for device in devices {
         count = count.saturating_add(taken_of(device));
-        left = behind;
     }
     count
 }
 
-#[tactic(auto, using(crate::proofs::CountLemmas::of_sums))]
-fn ranges_left_in(devices: &[Device]) -> u64
-    ensures { result ≡ capped (total ranges_left devices.now) }
-{
+fn ranges_left_in(devices: &[Device]) -> u64 {
     let mut count = 0_u64;
-    let mut left = devices;
-    while let [device, behind @ ..] = left {
+    for device in devices {
         count = count.saturating_add(left_of(device));
-        left = behind;
     }
     count
 }
 
-pub(crate) fn ranges_left(machine: &Machine, fates: &[BridgeFate], devices: &[Device]) -> u64
-    ensures { result ≡
-        capped (own_ranges machine.now.bridges fates.now + total ranges_left devices.now) }
-{
+pub(crate) fn ranges_left(machine: &Machine, fates: &[BridgeFate], devices: &[Device]) -> u64 {
     own_ranges(machine.bridges.as_slice(), fates).saturating_add(ranges_left_in(devices))
 }
 
-fn silent_in(functions: &[List<Judged>]) -> usize
-    ensures { result ≡ count_by (λ judged. not (claims_something judged)) functions.now }
-{
+fn silent_in(functions: &[List<Judged>]) -> usize {
     functions
         .iter()
         .filter(|judged| !claims_something(judged.as_slice()))
         .count()
 }
 
-fn functions_left_of(device: &Device) -> usize
-    ensures { result ≡ functions_left device.now }
-{
+fn functions_left_of(device: &Device) -> usize {
     let functions = device.functions.as_slice();
     if is_target(device.fate) {
         silent_in(functions)
@@ -245,44 +160,30 @@ fn functions_left_of(device: &Device) -> usize
     }
 }
 
-#[tactic(auto, using(crate::proofs::CountLemmas::of_sums))]
-fn functions_left_in(devices: &[Device]) -> u64
-    ensures { result ≡ capped (total functions_left devices.now) }
-{
+fn functions_left_in(devices: &[Device]) -> u64 {
     let mut count = 0_u64;
-    let mut left = devices;
-    while let [device, behind @ ..] = left {
+    for device in devices {
         count = count.saturating_add(functions_left_of(device) as u64);
-        left = behind;
     }
     count
 }
 
-pub(crate) fn functions_left(fates: &[BridgeFate], devices: &[Device]) -> u64
-    ensures { result ≡ capped (count_by (λ fate. not (is_taken fate)) fates.now +
-        total functions_left devices.now) }
-{
+pub(crate) fn functions_left(fates: &[BridgeFate], devices: &[Device]) -> u64 {
     functions_left_in(devices).saturating_add(bridges_left(fates) as u64)
 }
 
-fn is_far(window: Window) -> bool
-    ensures { result ≡ is_far window }
-{
+fn is_far(window: Window) -> bool {
     window.limit >= 0x1_0000_0000
 }
 
-fn has_far_window(fate: WindowFate) -> bool
-    ensures { result ≡ has_far_window fate }
-{
+fn has_far_window(fate: WindowFate) -> bool {
     match fate {
         WindowFate::Open(window) => is_far(window),
         WindowFate::Absent | WindowFate::Closed(..) => false,
     }
 }
 
-fn is_far_bridge(fate: &BridgeFate) -> bool
-    ensures { result ≡ is_far_bridge fate.now }
-{
+fn is_far_bridge(fate: &BridgeFate) -> bool {
     match fate {
         BridgeFate::LeftOut(_) => false,
         BridgeFate::Taken(bridge) => {
@@ -291,15 +192,11 @@ fn is_far_bridge(fate: &BridgeFate) -> bool
     }
 }
 
-fn has_far_range(judged: &[Judged]) -> bool
-    ensures { result ≡ has_far_range judged.now }
-{
+fn has_far_range(judged: &[Judged]) -> bool {
     judged.iter().any(|one| is_far_range(one.fate))
 }
 
-fn is_far_range(fate: RangeFate) -> bool
-    ensures { result ≡ is_far_range fate }
-{
+fn is_far_range(fate: RangeFate) -> bool {
     match fate {
         RangeFate::Taken(span) => {
             is_far(span) || span.limit.saturating_sub(span.base) >= 0xffff_ffff
@@ -308,35 +205,25 @@ fn is_far_range(fate: RangeFate) -> bool
     }
 }
 
-fn is_far_device(device: &Device) -> bool
-    ensures { result ≡ is_far_device device.now }
-{
+fn is_far_device(device: &Device) -> bool {
     is_target(device.fate) && some_far(device.functions.as_slice())
 }
 
-fn some_far(functions: &[List<Judged>]) -> bool
-    ensures { result ≡ list_any has_far_range functions.now }
-{
+fn some_far(functions: &[List<Judged>]) -> bool {
     functions
         .iter()
         .any(|judged| has_far_range(judged.as_slice()))
 }
 
 /// Whether a window or a range of the board reaches 2^32, or a range has so many addresses.
-pub(crate) fn has_far(fates: &[BridgeFate], devices: &[Device]) -> bool
-    ensures { result ≡ (list_any is_far_bridge fates.now || list_any is_far_device devices.now) }
-{
+pub(crate) fn has_far(fates: &[BridgeFate], devices: &[Device]) -> bool {
     has_far_bridge(fates) || has_far_device(devices)
 }
 
-fn has_far_bridge(fates: &[BridgeFate]) -> bool
-    ensures { result ≡ list_any is_far_bridge fates.now }
-{
+fn has_far_bridge(fates: &[BridgeFate]) -> bool {
     fates.iter().any(|fate| is_far_bridge(fate))
 }
 
-fn has_far_device(devices: &[Device]) -> bool
-    ensures { result ≡ list_any is_far_device devices.now }
-{
+fn has_far_device(devices: &[Device]) -> bool {
     devices.iter().any(|device| is_far_device(device))
 }

@@ -1,10 +1,3 @@
-ghost use Rattle.std.specs.Prelude.{◌≡◌, ◌++◌, ◌==◌, [], OnOk, string_bytes, codes};
-ghost use Rattle.std.specs.Fmt.{decimal};
-ghost use Rattle.import_targets.specs.declared.fate.RangeFate.TheVariants.{LeftOut};
-ghost use Rattle.import_board.specs.Text.{left_out_words, bus_on_board, kind_words, title};
-ghost use Rattle.import_board.specs.Text.{name_words, size_words, range_words, range_line};
-ghost use Rattle.import_board.specs.Text.{judged_by, judged_line, device_note};
-
 use board_model::Window;
 use board_printer::{Address, space_word};
 use import_bridges::Machine;
@@ -19,12 +12,6 @@ use std::fmt;
 pub(crate) struct HexByte(pub(crate) u8);
 
 impl fmt::Display for HexByte {
-    ghost use Rattle.std.specs.Prelude.{Some};
-    ghost use Rattle.import_board.specs.Text.{hex_byte};
-
-    ghost output = { λ byte. Some (hex_byte byte.0) };
-
-    #[tactic(auto, using(crate::proofs::DigitLemmas::one_digit))]
     fn fmt<W: fmt::Write>(&self, f: &mut fmt::Formatter<W>) -> fmt::Result {
         let high = self.0 / 16;
         let low = self.0 % 16;
@@ -33,26 +20,18 @@ impl fmt::Display for HexByte {
 }
 
 /// How a comment on what the board does not have begins.
-#[tactic(auto, unfolding(crate::specs::Text::left_out_words))]
-pub(crate) fn print_left_out(text: &mut String) -> Result<(), AllocError>
-    ensures { OnOk result (string_bytes text.new ≡ string_bytes text.old ++ left_out_words) }
-{
+pub(crate) fn print_left_out(text: &mut String) -> Result<(), AllocError> {
     text.push_str("# left out: ")
 }
 
 /// The root is bus 0 of the board.
-pub(crate) fn print_bus(text: &mut String, machine: &Machine, bus: u8) -> Result<(), AllocError>
-    ensures { OnOk result
-        (string_bytes text.new ≡ string_bytes text.old ++ bus_on_board machine.now bus) }
-{
+pub(crate) fn print_bus(text: &mut String, machine: &Machine, bus: u8) -> Result<(), AllocError> {
     let number = if bus == machine.root.bus { 0 } else { bus };
     write!(text, "{number}")
 }
 
 /// Where a function is, its name, and the kind of PCI that it says it is.
-pub(crate) fn print_title(text: &mut String, function: &Function) -> Result<(), AllocError>
-    ensures { OnOk result (string_bytes text.new ≡ string_bytes text.old ++ title function.now) }
-{
+pub(crate) fn print_title(text: &mut String, function: &Function) -> Result<(), AllocError> {
     let bus = HexByte(function.slot.bus);
     let device = HexByte(function.slot.device);
     let number = function.slot.function;
@@ -63,9 +42,7 @@ pub(crate) fn print_title(text: &mut String, function: &Function) -> Result<(), 
 }
 
 /// What is no printing character is shown as a question mark.
-fn print_name(text: &mut String, name: &[u8]) -> Result<(), AllocError>
-    ensures { OnOk result (string_bytes text.new ≡ string_bytes text.old ++ name_words name.now) }
-{
+fn print_name(text: &mut String, name: &[u8]) -> Result<(), AllocError> {
     for byte in name {
         let shown = if (0x20..0x7f).contains(byte) {
             *byte
@@ -77,9 +54,7 @@ fn print_name(text: &mut String, name: &[u8]) -> Result<(), AllocError>
     Ok(())
 }
 
-fn print_kind(text: &mut String, kind: Option<CapabilityKind>) -> Result<(), AllocError>
-    ensures { OnOk result (string_bytes text.new ≡ string_bytes text.old ++ kind_words kind) }
-{
+fn print_kind(text: &mut String, kind: Option<CapabilityKind>) -> Result<(), AllocError> {
     match kind {
         Some(CapabilityKind::Express) => text.push_str(" (PCI Express)"),
         Some(CapabilityKind::PciX) => text.push_str(" (PCI-X)"),
@@ -88,9 +63,7 @@ fn print_kind(text: &mut String, kind: Option<CapabilityKind>) -> Result<(), All
 }
 
 /// What a register asks for: its space, its base, and its size where that is told.
-pub(crate) fn print_range(text: &mut String, found: &FoundFunction) -> Result<(), AllocError>
-    ensures { OnOk result (string_bytes text.new ≡ string_bytes text.old ++ range_words found.now) }
-{
+pub(crate) fn print_range(text: &mut String, found: &FoundFunction) -> Result<(), AllocError> {
     if found.base == 0 {
         return write!(text, "base address register {}", found.number);
     }
@@ -107,9 +80,7 @@ pub(crate) fn print_range(text: &mut String, found: &FoundFunction) -> Result<()
 }
 
 /// A range of the board.
-fn print_range_line(text: &mut String, space: Space, span: Window) -> Result<(), AllocError>
-    ensures { OnOk result (string_bytes text.new ≡ string_bytes text.old ++ range_line space span) }
-{
+fn print_range_line(text: &mut String, space: Space, span: Window) -> Result<(), AllocError> {
     let size = span.limit.saturating_sub(span.base).saturating_add(1);
     writeln!(
         text,
@@ -121,34 +92,25 @@ fn print_range_line(text: &mut String, space: Space, span: Window) -> Result<(),
 }
 
 /// What becomes of a register.
-pub(crate) fn print_judged(text: &mut String, judged: &Judged) -> Result<(), AllocError>
-    ensures { OnOk result
-        (string_bytes text.new ≡ string_bytes text.old ++ judged_line judged.now) }
-{
+pub(crate) fn print_judged(text: &mut String, judged: &Judged) -> Result<(), AllocError> {
     match judged.fate {
         RangeFate::Taken(span) => print_range_line(text, judged.found.space, span),
         RangeFate::LeftOut(reason) => print_left_range(text, &judged.found, reason),
     }
 }
 
-fn print_left_range(
+pub(crate) fn print_left_range(
     text: &mut String,
     found: &FoundFunction,
     reason: NoRange,
-) -> Result<(), AllocError>
-    ensures { OnOk result
-        (string_bytes text.new ≡ string_bytes text.old ++ judged_by found.now (LeftOut reason)) }
-{
+) -> Result<(), AllocError> {
     print_left_out(text)?;
     print_range(text, found)?;
     writeln!(text, ", {reason}")
 }
 
 /// Where a device number is another than that of the text.
-pub(crate) fn print_device_note(text: &mut String, number: u8, own: u8) -> Result<(), AllocError>
-    ensures { OnOk result
-        (string_bytes text.new ≡ string_bytes text.old ++ device_note number own) }
-{
+pub(crate) fn print_device_note(text: &mut String, number: u8, own: u8) -> Result<(), AllocError> {
     if number == own {
         return Ok(());
     }

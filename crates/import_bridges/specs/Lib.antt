@@ -1,4 +1,2 @@
 pub mod Functions
-pub mod Windows
-pub mod Bridges
-pub mod Reasons
+pub mod Decoding

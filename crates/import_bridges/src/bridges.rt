@@ -1,12 +1,3 @@
-ghost use Rattle.std.specs.Prelude.{◌≡◌, ◌+◌, ◌<◌, ◌^◌, ◌==◌, [], is_some, length, map, IfOk};
-ghost use Rattle.std.specs.List.{find, list_any, count_by};
-ghost use Rattle.std.specs.Option.{option_copied};
-ghost use Rattle.import_bridges.specs.declared.fate.BridgeFate.TheVariants.{Taken};
-ghost use Rattle.import_bridges.specs.Bridges.{secondary_of, subordinate_of, place_of, last_by};
-ghost use Rattle.import_bridges.specs.Bridges.{last_behind, shares_buses, is_full, bridge_with};
-ghost use Rattle.import_bridges.specs.Bridges.{bridge_behind, bridge_fate, taken_of, fates_behind};
-ghost use Rattle.import_bridges.specs.Bridges.{bridge_fates, taken_among};
-
 use crate::devices::device_number;
 use crate::header::byte_at;
 use crate::windows::{io_fate, memory_fate, prefetchable_fate};
@@ -16,71 +7,53 @@ use pci_command::{List, NoMemory};
 use std::alloc::Global;
 
 /// What becomes of each bridge of the machine.
-pub fn bridge_fates(alloc: Global, machine: &Machine) -> Result<List<BridgeFate>, NoMemory>
-    ensures { IfOk result (λ fates. fates ≡ bridge_fates machine.now) }
-{
+pub fn bridge_fates(alloc: Global, machine: &Machine) -> Result<List<BridgeFate>, NoMemory> {
     let mut fates = Vec::new(alloc);
     let mut taken = Vec::new(alloc);
     let mut given = Vec::new(alloc);
-    let mut left = machine.bridges.as_slice();
-    while let [function, behind @ ..] = left {
+    for function in machine.bridges.as_slice() {
         let fate = bridge_fate(machine, taken.as_slice(), given.as_slice(), function);
         if let BridgeFate::Taken(bridge) = fate {
             given.push(place_of(&bridge))?;
             taken.push(bridge)?;
         }
         fates.push(fate)?;
-        left = behind;
     }
     Ok(List::from_vec(fates))
 }
 
 /// Those that the board has.
-pub fn taken_among(alloc: Global, fates: &[BridgeFate]) -> Result<List<TakenBridge>, NoMemory>
-    ensures { IfOk result (λ taken. taken ≡ taken_among fates.now) }
-{
+pub fn taken_among(alloc: Global, fates: &[BridgeFate]) -> Result<List<TakenBridge>, NoMemory> {
     let mut taken = Vec::new(alloc);
-    let mut left = fates;
-    while let [fate, behind @ ..] = left {
+    for fate in fates {
         if let BridgeFate::Taken(bridge) = fate {
             taken.push(*bridge)?;
         }
-        left = behind;
     }
     Ok(List::from_vec(taken))
 }
 
 /// The device number that a bridge got, and where.
-pub fn place_of(bridge: &TakenBridge) -> DevicePlace
-    ensures { result ≡ place_of bridge.now }
-{
+pub fn place_of(bridge: &TakenBridge) -> DevicePlace {
     DevicePlace {
         bus: bridge.parent,
         device: bridge.device,
     }
 }
 
-fn secondary_of(function: &Function) -> u8
-    ensures { result ≡ secondary_of function.now }
-{
+fn secondary_of(function: &Function) -> u8 {
     byte_at(function.header.as_slice(), 0x19)
 }
 
-fn subordinate_of(function: &Function) -> u8
-    ensures { result ≡ subordinate_of function.now }
-{
+fn subordinate_of(function: &Function) -> u8 {
     byte_at(function.header.as_slice(), 0x1a)
 }
 
-fn bridge_to(taken: &[TakenBridge], bus: u8) -> Option<&TakenBridge>
-    ensures { option_copied result ≡ find (λ bridge. bridge.bus == bus) taken.now }
-{
+fn bridge_to(taken: &[TakenBridge], bus: u8) -> Option<&TakenBridge> {
     taken.iter().find(|bridge| bridge.bus == bus)
 }
 
-fn last_by(bridge: Option<&TakenBridge>) -> Option<u8>
-    ensures { result ≡ last_by (option_copied bridge.entry) }
-{
+fn last_by(bridge: Option<&TakenBridge>) -> Option<u8> {
     match bridge {
         Some(bridge) => Some(bridge.last),
         None => None,
@@ -88,9 +61,7 @@ fn last_by(bridge: Option<&TakenBridge>) -> Option<u8>
 }
 
 /// The last bus behind the bridge to this one, where one leads there; any behind the root.
-fn last_behind(machine: &Machine, taken: &[TakenBridge], bus: u8) -> Option<u8>
-    ensures { result ≡ last_behind machine.now taken.now bus }
-{
+fn last_behind(machine: &Machine, taken: &[TakenBridge], bus: u8) -> Option<u8> {
     if bus == machine.root.bus {
         Some(255)
     } else {
@@ -99,9 +70,7 @@ fn last_behind(machine: &Machine, taken: &[TakenBridge], bus: u8) -> Option<u8>
 }
 
 /// Whether a bridge of the board leads to the bus, or it is the root.
-pub fn is_led_to(machine: &Machine, taken: &[TakenBridge], bus: u8) -> bool
-    ensures { result ≡ is_some (last_behind machine.now taken.now bus) }
-{
+pub fn is_led_to(machine: &Machine, taken: &[TakenBridge], bus: u8) -> bool {
     last_behind(machine, taken, bus).is_some()
 }
 
@@ -110,10 +79,7 @@ fn bridge_fate(
     taken: &[TakenBridge],
     given: &[DevicePlace],
     function: &Function,
-) -> BridgeFate
-    requires { given.now ≡ map place_of taken.now }
-    ensures { result ≡ bridge_fate machine.now taken.now function.now }
-{
+) -> BridgeFate {
     match last_behind(machine, taken, function.slot.bus) {
         None => BridgeFate::LeftOut(NoBridge::NoWay(function.slot.bus)),
         Some(last) => bridge_behind(machine, taken, given, function, last),
@@ -127,10 +93,7 @@ fn bridge_behind(
     given: &[DevicePlace],
     function: &Function,
     last: u8,
-) -> BridgeFate
-    requires { given.now ≡ map place_of taken.now }
-    ensures { result ≡ bridge_behind machine.now taken.now function.now (Some last) }
-{
+) -> BridgeFate {
     let bus = function.slot.bus;
     let first = secondary_of(function);
     let end = subordinate_of(function);
@@ -158,9 +121,7 @@ fn bridge_with(
     taken: &[TakenBridge],
     function: &Function,
     device: u8,
-) -> TakenBridge
-    ensures { bridge_with machine.now taken.now function.now (Some device) ≡ Taken result }
-{
+) -> TakenBridge {
     let root = machine.root.bus;
     TakenBridge {
         parent: function.slot.bus,
@@ -174,15 +135,11 @@ fn bridge_with(
 }
 
 /// Whether a bridge on the bus has some of the buses from first to last.
-fn some_shares_buses(taken: &[TakenBridge], bus: u8, first: u8, last: u8) -> bool
-    ensures { result ≡ list_any (shares_buses bus first last) taken.now }
-{
+fn some_shares_buses(taken: &[TakenBridge], bus: u8, first: u8, last: u8) -> bool {
     taken.iter().any(|bridge| bridge.parent == bus && bridge.bus <= last && first <= bridge.last)
 }
 
-fn is_full(taken: &[TakenBridge], bus: u8) -> bool
-    ensures { result ≡ is_full taken.now bus }
-{
+fn is_full(taken: &[TakenBridge], bus: u8) -> bool {
     let beside = taken.iter().filter(|bridge| bridge.parent == bus).count();
     beside == 8 || taken.len() == 31
 }

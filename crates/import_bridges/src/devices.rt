@@ -1,8 +1,3 @@
-ghost use Rattle.std.specs.Prelude.{◌≡◌};
-ghost use Rattle.std.specs.List.{list_any};
-ghost use Rattle.import_bridges.specs.Bridges.{has_device, is_in_text, is_place, is_given, is_free};
-ghost use Rattle.import_bridges.specs.Bridges.{greatest_below, device_number};
-
 use crate::Machine;
 use import_text::Function;
 
@@ -15,9 +10,7 @@ pub struct DevicePlace {
 
 /// The device number that an agent of the board gets: its own, if none of those given is that, else
 /// the greatest that is neither in the text nor was given.
-pub fn device_number(machine: &Machine, given: &[DevicePlace], bus: u8, own: u8) -> Option<u8>
-    ensures { result ≡ device_number machine.now given.now bus own }
-{
+pub fn device_number(machine: &Machine, given: &[DevicePlace], bus: u8, own: u8) -> Option<u8> {
     if is_given(given, bus, own) {
         greatest_free(machine, given, bus, 32)
     } else {
@@ -25,9 +18,7 @@ pub fn device_number(machine: &Machine, given: &[DevicePlace], bus: u8, own: u8)
     }
 }
 
-fn greatest_free(machine: &Machine, given: &[DevicePlace], bus: u8, below: u8) -> Option<u8>
-    ensures { result ≡ greatest_below (is_free machine.now given.now bus) below }
-{
+fn greatest_free(machine: &Machine, given: &[DevicePlace], bus: u8, below: u8) -> Option<u8> {
     if below == 0 {
         return None;
     }
@@ -39,29 +30,21 @@ fn greatest_free(machine: &Machine, given: &[DevicePlace], bus: u8, below: u8) -
     }
 }
 
-fn is_free(machine: &Machine, given: &[DevicePlace], bus: u8, device: u8) -> bool
-    ensures { result ≡ is_free machine.now given.now bus device }
-{
+fn is_free(machine: &Machine, given: &[DevicePlace], bus: u8, device: u8) -> bool {
     !is_in_text(machine, bus, device) && !is_given(given, bus, device)
 }
 
-fn is_given(given: &[DevicePlace], bus: u8, device: u8) -> bool
-    ensures { result ≡ is_given given.now bus device }
-{
+fn is_given(given: &[DevicePlace], bus: u8, device: u8) -> bool {
     given
         .iter()
         .any(|place| place.bus == bus && place.device == device)
 }
 
-fn is_in_text(machine: &Machine, bus: u8, device: u8) -> bool
-    ensures { result ≡ is_in_text machine.now bus device }
-{
+fn is_in_text(machine: &Machine, bus: u8, device: u8) -> bool {
     some_has_device(machine.bridges.as_slice(), bus, device)
         || some_has_device(machine.others.as_slice(), bus, device)
 }
 
-fn some_has_device(functions: &[Function], bus: u8, device: u8) -> bool
-    ensures { result ≡ list_any (has_device bus device) functions.now }
-{
+fn some_has_device(functions: &[Function], bus: u8, device: u8) -> bool {
     functions.iter().any(|function| function.slot.bus == bus && function.slot.device == device)
 }

@@ -68,11 +68,6 @@ pub enum BridgeFate {
 }
 
 impl fmt::Display for Buses {
-    ghost use Rattle.std.specs.Prelude.{Some};
-    ghost use Rattle.import_bridges.specs.Reasons.{buses_words};
-
-    ghost output = { λ buses. Some (buses_words buses) };
-
     fn fmt<W: fmt::Write>(&self, f: &mut fmt::Formatter<W>) -> fmt::Result {
         let Buses { first, last } = self;
         write!(f, "{first} to {last}")
@@ -84,11 +79,6 @@ impl fmt::Display for Buses {
 struct NotBehind(u8);
 
 impl fmt::Display for NotBehind {
-    ghost use Rattle.std.specs.Prelude.{Some};
-    ghost use Rattle.import_bridges.specs.Reasons.{not_behind_words};
-
-    ghost output = { λ bus. Some (not_behind_words bus.0) };
-
     fn fmt<W: fmt::Write>(&self, f: &mut fmt::Formatter<W>) -> fmt::Result {
         let bus = self.0;
         write!(f, " are not those behind bus {bus}")
@@ -96,11 +86,6 @@ impl fmt::Display for NotBehind {
 }
 
 impl fmt::Display for NoBridge {
-    ghost use Rattle.std.specs.Prelude.{Some};
-    ghost use Rattle.import_bridges.specs.Reasons.{no_bridge_words};
-
-    ghost output = { λ reason. Some (no_bridge_words reason) };
-
     fn fmt<W: fmt::Write>(&self, f: &mut fmt::Formatter<W>) -> fmt::Result {
         match self {
             NoBridge::NoWay(bus) => write!(f, "no bridge of this board leads to bus {bus}"),
@@ -117,11 +102,6 @@ impl fmt::Display for NoBridge {
 }
 
 impl fmt::Display for NoWindow {
-    ghost use Rattle.std.specs.Prelude.{Some};
-    ghost use Rattle.import_bridges.specs.Reasons.{no_window_words};
-
-    ghost output = { λ reason. Some (no_window_words reason) };
-
     fn fmt<W: fmt::Write>(&self, f: &mut fmt::Formatter<W>) -> fmt::Result {
         match self {
             NoWindow::Zero => f.write_str("its registers are zero"),

@@ -1,7 +1,7 @@
 ghost use Rattle.std.specs.Prelude.{◌≡◌, ◌<◌, ◌^◌, slice_index};
 ghost use Rattle.board_model.specs.HeaderBytes.{register_2, register_4};
 ghost use Rattle.import_bridges.specs.Functions.{header_type, is_bridge};
-ghost use Rattle.import_bridges.specs.Windows.{decodes};
+ghost use Rattle.import_bridges.specs.Decoding.{decodes};
 
 use import_text::Function;
 use pci_command::Space;
@@ -38,7 +38,8 @@ pub fn header_type(function: &Function) -> u8
     byte_at(function.header.as_slice(), 0x0e) & 0x7f
 }
 
-pub(crate) fn is_bridge(function: &Function) -> bool
+/// Whether the header is that of a bridge.
+pub fn is_bridge(function: &Function) -> bool
     ensures { result ≡ is_bridge function.now }
 {
     header_type(function) == 1

@@ -1,7 +1,5 @@
-ghost use Rattle.std.specs.Prelude.{◌≡◌, ◌<◌, ◌+◌, ◌-◌, ◌^◌, ◌≤◌, filter, length, IfOk};
+ghost use Rattle.std.specs.Prelude.{◌≡◌, ◌<◌, ◌≤◌, ◌^◌, filter, length};
 ghost use Rattle.import_bridges.specs.Functions.{least, bus_of, least_domain, is_in, first_root};
-ghost use Rattle.import_bridges.specs.Functions.{root_by, slot_number, bridge_number, place_in};
-ghost use Rattle.import_bridges.specs.Functions.{put_in_order, with_function, machine_by};
 
 use crate::header::{byte_at, is_bridge};
 use import_text::Function;
@@ -27,49 +25,19 @@ pub struct Machine {
     pub others: List<Function>,
 }
 
-/// The machine below a root, or where none is asked for below the least bus of the least domain.
-#[tactic(auto, using(crate::proofs::ListLemmas::with_one_more))]
-pub fn machine_of(
-    alloc: Global,
-    root: Option<Root>,
-    functions: List<Function>,
-) -> Result<Machine, NoMemory>
-    ensures { IfOk result (λ machine. machine ≡ machine_by (root_by root functions) functions) }
-{
-    let root = root_by(root, functions.as_slice());
-    let mut machine = Machine {
-        root,
-        elsewhere: 0,
-        bridges: List::from_vec(Vec::new(alloc)),
-        others: List::from_vec(Vec::new(alloc)),
-    };
-    let _few = functions.as_slice().len();
-    for function in functions.into_vec() {
-        machine = with_function(machine, function)?;
-    }
-    Ok(machine)
-}
-
-/// The machine with one more function.
-fn with_function(machine: Machine, function: Function) -> Result<Machine, NoMemory>
-    requires { machine.elsewhere + 1 < 2 ^ 64 }
-    ensures value { IfOk result (λ more. more ≡ with_function function machine) }
-    ensures few { IfOk result (λ more. more.elsewhere ≤ machine.elsewhere + 1) }
-{
-    let Machine {
-        root,
-        mut elsewhere,
-        bridges,
-        others,
-    } = machine;
-    let mut bridges = bridges.into_vec();
-    let mut others = others.into_vec();
-    if function.slot.domain != root.domain {
-        elsewhere += 1;
-    } else if is_bridge(&function) {
-        put_bridge(&mut bridges, function)?;
-    } else {
-        put_other(&mut others, function)?;
+/// The machine of these functions, below a root.
+pub fn machine_of(alloc: Global, root: Root, functions: &[Function]) -> Result<Machine, NoMemory> {
+    let mut elsewhere = 0_u64;
+    let mut bridges = Vec::new(alloc);
+    let mut others = Vec::new(alloc);
+    for function in functions {
+        if function.slot.domain != root.domain {
+            elsewhere = elsewhere.saturating_add(1);
+        } else if is_bridge(function) {
+            put_bridge(alloc, &mut bridges, function)?;
+        } else {
+            put_other(alloc, &mut others, function)?;
+        }
     }
     Ok(Machine {
         root,
@@ -79,16 +47,20 @@ fn with_function(machine: Machine, function: Function) -> Result<Machine, NoMemo
     })
 }
 
-fn root_by(root: Option<Root>, functions: &[Function]) -> Root
-    ensures { result ≡ root_by root functions.now }
-{
-    match root {
-        None => first_root(functions),
-        Some(root) => root,
-    }
+/// The same function, in memory of its own.
+fn copy_of(alloc: Global, function: &Function) -> Result<Function, NoMemory> {
+    Ok(Function {
+        line: function.line,
+        slot: function.slot,
+        name: List::from_vec(Vec::from_slice(alloc, function.name.as_slice())?),
+        header: List::from_vec(Vec::from_slice(alloc, function.header.as_slice())?),
+        sizes: function.sizes,
+        kind: function.kind,
+    })
 }
 
-fn first_root(functions: &[Function]) -> Root
+/// Where no root is asked for: the least bus of the least domain.
+pub fn first_root(functions: &[Function]) -> Root
     ensures { result ≡ first_root functions.now }
 {
     let domain = least_domain(functions);
@@ -125,8 +97,7 @@ fn least_bus(domain: u32, functions: &[Function]) -> u8
 }
 
 fn slot_number(function: &Function) -> u32
-    ensures value { result ≡ slot_number function.now }
-    ensures few { result < 2 ^ 24 }
+    ensures { result < 2 ^ 24 }
 {
     let bus = u32::from(function.slot.bus);
     let device = u32::from(function.slot.device);
@@ -134,59 +105,45 @@ fn slot_number(function: &Function) -> u32
     bus * 0x1_0000 + device * 0x100 + number
 }
 
-fn bridge_number(function: &Function) -> u32
-    ensures { result ≡ bridge_number function.now }
-{
+fn bridge_number(function: &Function) -> u32 {
     u32::from(byte_at(function.header.as_slice(), 0x19)) * 0x100_0000 + slot_number(function)
 }
 
-fn put_bridge(bridges: &mut Vec<Function>, function: Function) -> Result<(), NoMemory>
-    ensures { IfOk result
-        (λ _. bridges.new.items ≡ put_in_order bridge_number function bridges.old.items) }
-{
-    let place = place_of_bridge(bridges.as_slice(), bridge_number(&function));
-    bridges.insert(place, function)?;
+fn put_bridge(
+    alloc: Global,
+    bridges: &mut Vec<Function>,
+    function: &Function,
+) -> Result<(), NoMemory> {
+    let place = place_of_bridge(bridges.as_slice(), bridge_number(function));
+    bridges.insert(place, copy_of(alloc, function)?)?;
     Ok(())
 }
 
-fn put_other(others: &mut Vec<Function>, function: Function) -> Result<(), NoMemory>
-    ensures { IfOk result
-        (λ _. others.new.items ≡ put_in_order slot_number function others.old.items) }
-{
-    let place = place_of_other(others.as_slice(), slot_number(&function));
-    others.insert(place, function)?;
+fn put_other(
+    alloc: Global,
+    others: &mut Vec<Function>,
+    function: &Function,
+) -> Result<(), NoMemory> {
+    let place = place_of_other(others.as_slice(), slot_number(function));
+    others.insert(place, copy_of(alloc, function)?)?;
     Ok(())
 }
 
 /// Before the first of those with a greater number.
 fn place_of_bridge(bridges: &[Function], number: u32) -> usize
-    ensures value { result ≡ place_in bridge_number number bridges.now }
-    ensures within { result ≤ length bridges.now }
+    ensures { result ≤ length bridges.now }
 {
-    let mut place = 0;
-    let mut left = bridges;
-    while let [other, behind @ ..] = left {
-        if number < bridge_number(other) {
-            return place;
-        }
-        place += 1;
-        left = behind;
-    }
-    place
+    bridges
+        .iter()
+        .position(|other| number < bridge_number(other))
+        .unwrap_or(bridges.len())
 }
 
 fn place_of_other(others: &[Function], number: u32) -> usize
-    ensures value { result ≡ place_in slot_number number others.now }
-    ensures within { result ≤ length others.now }
+    ensures { result ≤ length others.now }
 {
-    let mut place = 0;
-    let mut left = others;
-    while let [other, behind @ ..] = left {
-        if number < slot_number(other) {
-            return place;
-        }
-        place += 1;
-        left = behind;
-    }
-    place
+    others
+        .iter()
+        .position(|other| number < slot_number(other))
+        .unwrap_or(others.len())
 }

@@ -1,24 +1,16 @@
-ghost use Rattle.std.specs.Prelude.{◌≡◌, ◌<◌, ◌^◌, option_to_list};
-ghost use Rattle.std.specs.List.{find, list_any};
-ghost use Rattle.std.specs.Option.{option_copied};
+ghost use Rattle.std.specs.Prelude.{◌≡◌, ◌<◌, ◌^◌};
 ghost use Rattle.board_headers.specs.Windows.{memory_window, prefetchable_window};
 ghost use Rattle.board_headers.specs.Windows.{prefetchable_upper, io_window, io_upper};
-ghost use Rattle.board_headers.specs.Windows.{window_between};
-ghost use Rattle.import_bridges.specs.Windows.{open_in, windows_in, lies_in, shares, leads_to};
-ghost use Rattle.import_bridges.specs.Windows.{is_reached, passes_some, meeting, why_closed};
-ghost use Rattle.import_bridges.specs.Windows.{open_or, window_fate, decodes, memory_fate};
-ghost use Rattle.import_bridges.specs.Windows.{prefetchable_fate, io_fate};
+ghost use Rattle.board_headers.specs.Windows.{window_between, windows_of, has_bit};
 
 use crate::header::{byte_at, decodes, register_2, register_4};
 use crate::{NoWindow, TakenBridge, WindowFate};
-use board_headers::window_between;
+use board_headers::{Windows, window_between};
 use board_model::Window;
 use import_text::Function;
 use pci_command::Space;
 
-fn open_in(fate: WindowFate) -> Option<Window>
-    ensures { result ≡ open_in fate }
-{
+fn open_in(fate: WindowFate) -> Option<Window> {
     match fate {
         WindowFate::Open(window) => Some(window),
         WindowFate::Absent | WindowFate::Closed(..) => None,
@@ -26,40 +18,30 @@ fn open_in(fate: WindowFate) -> Option<Window>
 }
 
 /// Whether one window lies in the other.
-pub fn lies_in(window: Window, outer: Window) -> bool
-    ensures { result ≡ lies_in window outer }
-{
+pub fn lies_in(window: Window, outer: Window) -> bool {
     outer.base <= window.base && window.limit <= outer.limit
 }
 
 /// Whether two windows share an address.
-pub fn shares(window: Window, other: Window) -> bool
-    ensures { result ≡ shares window other }
-{
+pub fn shares(window: Window, other: Window) -> bool {
     window.base <= other.limit && other.base <= window.limit
 }
 
-fn lies_in_some(window: Window, outer: Option<Window>) -> bool
-    ensures { result ≡ list_any (lies_in window) (option_to_list outer) }
-{
+fn lies_in_some(window: Window, outer: Option<Window>) -> bool {
     match outer {
         Some(outer) => lies_in(window, outer),
         None => false,
     }
 }
 
-fn shares_some(window: Window, other: Option<Window>) -> bool
-    ensures { result ≡ list_any (shares window) (option_to_list other) }
-{
+fn shares_some(window: Window, other: Option<Window>) -> bool {
     match other {
         Some(other) => shares(window, other),
         None => false,
     }
 }
 
-fn lies_in_windows(space: Space, window: Window, bridge: &TakenBridge) -> bool
-    ensures { result ≡ list_any (lies_in window) (windows_in space bridge.now) }
-{
+fn lies_in_windows(space: Space, window: Window, bridge: &TakenBridge) -> bool {
     match space {
         Space::Mem => {
             lies_in_some(window, open_in(bridge.mem)) || lies_in_some(window, open_in(bridge.pref))
@@ -69,9 +51,7 @@ fn lies_in_windows(space: Space, window: Window, bridge: &TakenBridge) -> bool
     }
 }
 
-fn shares_windows(space: Space, window: Window, bridge: &TakenBridge) -> bool
-    ensures { result ≡ list_any (shares window) (windows_in space bridge.now) }
-{
+fn shares_windows(space: Space, window: Window, bridge: &TakenBridge) -> bool {
     match space {
         Space::Mem => {
             shares_some(window, open_in(bridge.mem)) || shares_some(window, open_in(bridge.pref))
@@ -83,15 +63,11 @@ fn shares_windows(space: Space, window: Window, bridge: &TakenBridge) -> bool
 
 /// Whether what is in the window passes down to the bus: it is the root, or one window of the
 /// bridge to it has all of it.
-pub fn is_reached(root: u8, taken: &[TakenBridge], bus: u8, space: Space, window: Window) -> bool
-    ensures { result ≡ is_reached root taken.now bus space window }
-{
+pub fn is_reached(root: u8, taken: &[TakenBridge], bus: u8, space: Space, window: Window) -> bool {
     bus == root || some_leads_to(taken, bus, space, window)
 }
 
-fn some_leads_to(taken: &[TakenBridge], bus: u8, space: Space, window: Window) -> bool
-    ensures { result ≡ list_any (leads_to bus space window) taken.now }
-{
+fn some_leads_to(taken: &[TakenBridge], bus: u8, space: Space, window: Window) -> bool {
     taken.iter().any(|bridge| bridge.bus == bus && lies_in_windows(space, window, bridge))
 }
 
@@ -101,15 +77,11 @@ pub fn first_passing(
     bus: u8,
     space: Space,
     window: Window,
-) -> Option<&TakenBridge>
-    ensures { option_copied result ≡ find (passes_some bus space window) taken.now }
-{
+) -> Option<&TakenBridge> {
     taken.iter().find(|bridge| bridge.parent == bus && shares_windows(space, window, bridge))
 }
 
-fn meeting(bridge: Option<&TakenBridge>) -> Option<NoWindow>
-    ensures { result ≡ meeting (option_copied bridge.entry) }
-{
+fn meeting(bridge: Option<&TakenBridge>) -> Option<NoWindow> {
     match bridge {
         Some(bridge) => Some(NoWindow::Meets(bridge.bus)),
         None => None,
@@ -125,10 +97,12 @@ struct Side {
     is_on: bool,
 }
 
-fn why_closed(taken: &[TakenBridge], side: Side, is_zero: bool, window: Window) -> Option<NoWindow>
-    ensures { result ≡
-        why_closed side.root taken.now side.bus side.space is_zero side.is_on window }
-{
+fn why_closed(
+    taken: &[TakenBridge],
+    side: Side,
+    is_zero: bool,
+    window: Window,
+) -> Option<NoWindow> {
     if is_zero {
         return Some(NoWindow::Zero);
     }
@@ -146,10 +120,7 @@ fn window_fate(
     side: Side,
     zero_limit: u64,
     window: Option<Window>,
-) -> WindowFate
-    ensures { result ≡
-        window_fate side.root taken.now side.bus side.space zero_limit side.is_on window }
-{
+) -> WindowFate {
     match window {
         None => WindowFate::Absent,
         Some(window) => match why_closed(taken, side, window.limit == zero_limit, window) {
@@ -159,14 +130,7 @@ fn window_fate(
     }
 }
 
-fn side_of(root: u8, function: &Function, space: Space) -> Side
-    ensures { result ≡ record {
-      root = root;
-      bus = function.now.slot.bus;
-      space = space;
-      is_on = decodes space function.now;
-    } }
-{
+fn side_of(root: u8, function: &Function, space: Space) -> Side {
     Side {
         root,
         bus: function.slot.bus,
@@ -175,17 +139,17 @@ fn side_of(root: u8, function: &Function, space: Space) -> Side
     }
 }
 
-pub(crate) fn memory_fate(root: u8, taken: &[TakenBridge], function: &Function) -> WindowFate
-    ensures { result ≡ memory_fate root taken.now function.now }
-{
+pub(crate) fn memory_fate(root: u8, taken: &[TakenBridge], function: &Function) -> WindowFate {
     let side = side_of(root, function, Space::Mem);
     let window = memory_window(function.header.as_slice());
     window_fate(taken, side, 0xf_ffff, window)
 }
 
-pub(crate) fn prefetchable_fate(root: u8, taken: &[TakenBridge], function: &Function) -> WindowFate
-    ensures { result ≡ prefetchable_fate root taken.now function.now }
-{
+pub(crate) fn prefetchable_fate(
+    root: u8,
+    taken: &[TakenBridge],
+    function: &Function,
+) -> WindowFate {
     let header = function.header.as_slice();
     if register_2(header, 0x24) == 0 && register_2(header, 0x26) == 0 {
         return WindowFate::Absent;
@@ -194,15 +158,28 @@ pub(crate) fn prefetchable_fate(root: u8, taken: &[TakenBridge], function: &Func
     window_fate(taken, side, 0xf_ffff, prefetchable_window(header))
 }
 
-pub(crate) fn io_fate(root: u8, taken: &[TakenBridge], function: &Function) -> WindowFate
-    ensures { result ≡ io_fate root taken.now function.now }
-{
+pub(crate) fn io_fate(root: u8, taken: &[TakenBridge], function: &Function) -> WindowFate {
     let header = function.header.as_slice();
     if byte_at(header, 0x1c) == 0 && byte_at(header, 0x1d) == 0 {
         return WindowFate::Absent;
     }
     let side = side_of(root, function, Space::Io);
     window_fate(taken, side, 0xfff, io_window(header))
+}
+
+/// What a header says of buses and windows, whatever its command register says.
+pub fn windows_of(header: &[u8]) -> Windows
+    ensures { result ≡ windows_of header.now }
+{
+    Windows {
+        primary: byte_at(header, 0x18),
+        secondary: byte_at(header, 0x19),
+        subordinate: byte_at(header, 0x1a),
+        mem: memory_window(header),
+        pref: prefetchable_window(header),
+        io: io_window(header),
+        mode: (register_2(header, 0x3e) >> 5) & 1 == 1,
+    }
 }
 
 fn memory_window(header: &[u8]) -> Option<Window>

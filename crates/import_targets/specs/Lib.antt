@@ -1,4 +1,2 @@
 pub mod Registers
 pub mod Ranges
-pub mod Devices
-pub mod Reasons

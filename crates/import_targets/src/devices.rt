@@ -1,14 +1,8 @@
-ghost use Rattle.std.specs.Prelude.{◌≡◌, ◌++◌, ◌<◌, ◌≤◌, ◌^◌, ◌==◌, length, map, take, drop, []};
-ghost use Rattle.std.specs.Prelude.{if◌then◌else◌, IfOk};
-ghost use Rattle.std.specs.List.{list_any, count_by};
-ghost use Rattle.import_bridges.specs.Bridges.{place_of};
-ghost use Rattle.import_targets.specs.Devices.{is_placed, claims_something, device_fate};
-ghost use Rattle.import_targets.specs.Devices.{same_device, begins_with, run_length, judged_device};
-ghost use Rattle.import_targets.specs.Devices.{target_place, is_target, placed_by, by_device};
-ghost use Rattle.import_targets.specs.Devices.{devices_behind, devices_of};
+ghost use Rattle.std.specs.Prelude.{◌≤◌, length};
 
+use crate::fate::Placed;
 use crate::functions::functions_behind;
-use crate::{Device, DeviceFate, Judged, Placed, RangeFate};
+use crate::{Device, DeviceFate, Judged, RangeFate};
 use import_bridges::{DevicePlace, Machine, TakenBridge, device_number, is_led_to, place_of};
 use import_text::Function;
 use pci_command::{List, NoMemory};
@@ -19,9 +13,7 @@ pub fn devices_of(
     alloc: Global,
     machine: &Machine,
     bridges: &[TakenBridge],
-) -> Result<List<Device>, NoMemory>
-    ensures { IfOk result (λ devices. devices ≡ devices_of machine.now bridges.now) }
-{
+) -> Result<List<Device>, NoMemory> {
     let mut taken = Taken {
         given: places_of(alloc, bridges)?,
         targets: Vec::new(alloc),
@@ -47,16 +39,12 @@ fn push_devices(
     bridges: &[TakenBridge],
     taken: &mut Taken,
     functions: &[Function],
-) -> Result<(), NoMemory>
-    requires given { taken.old.given.items ≡ map place_of bridges.now ++ taken.old.targets.items }
-    ensures { IfOk result (λ _. devices.new.items ≡ devices.old.items ++ devices_behind machine.now
-        bridges.now taken.old.placed.items taken.old.targets.items (by_device functions.now)) }
-{
+) -> Result<(), NoMemory> {
     let mut left = functions;
-    while let [first, ..] = left {
-        let (own, behind) = left.split_at(run_length(left));
+    while let [first, behind @ ..] = left {
+        let (own, rest) = left.split_at(1 + others_of_device(first, behind));
         devices.push(judged_device(alloc, machine, bridges, taken, first, own)?)?;
-        left = behind;
+        left = rest;
     }
     Ok(())
 }
@@ -76,17 +64,7 @@ fn judged_device(
     taken: &mut Taken,
     first: &Function,
     functions: &[Function],
-) -> Result<Device, NoMemory>
-    requires given { taken.old.given.items ≡ map place_of bridges.now ++ taken.old.targets.items }
-    ensures device { IfOk result (λ device. device ≡ judged_device machine.now bridges.now
-        taken.old.placed.items taken.old.targets.items first.now functions.now) }
-    ensures placed { IfOk result
-        (λ device. taken.new.placed.items ≡ taken.old.placed.items ++ placed_by device) }
-    ensures targets { IfOk result (λ device. taken.new.targets.items ≡ taken.old.targets.items ++
-        target_place device.bus device.fate) }
-    ensures given { IfOk result
-        (λ device. taken.new.given.items ≡ map place_of bridges.now ++ taken.new.targets.items) }
-{
+) -> Result<Device, NoMemory> {
     let place = DevicePlace {
         bus: first.slot.bus,
         device: first.slot.device,
@@ -111,16 +89,7 @@ fn judged_device(
 }
 
 /// A target has its device number, and what was placed for it stays: for no other device does it.
-fn settle(taken: &mut Taken, before: usize, bus: u8, fate: DeviceFate) -> Result<(), NoMemory>
-    requires { before ≤ length taken.old.placed.items }
-    ensures placed { IfOk result
-        (λ _. taken.new.placed.items ≡ take before taken.old.placed.items ++
-        (if is_target fate then drop before taken.old.placed.items else [])) }
-    ensures targets { IfOk result
-        (λ _. taken.new.targets.items ≡ taken.old.targets.items ++ target_place bus fate) }
-    ensures given { IfOk result
-        (λ _. taken.new.given.items ≡ taken.old.given.items ++ target_place bus fate) }
-{
+fn settle(taken: &mut Taken, before: usize, bus: u8, fate: DeviceFate) -> Result<(), NoMemory> {
     match fate {
         DeviceFate::Target(device) => {
             taken.given.push(DevicePlace { bus, device })?;
@@ -137,11 +106,7 @@ fn device_fate(
     taken: &Taken,
     place: DevicePlace,
     functions: &[List<Judged>],
-) -> DeviceFate
-    requires { taken.now.given.items ≡ map place_of bridges.now ++ taken.now.targets.items }
-    ensures { result ≡ device_fate machine.now bridges.now taken.now.targets.items place.bus
-        place.device functions.now }
-{
+) -> DeviceFate {
     if !is_led_to(machine, bridges, place.bus) {
         return DeviceFate::NoWay;
     }
@@ -157,72 +122,42 @@ fn device_fate(
     }
 }
 
-fn some_claims(functions: &[List<Judged>]) -> bool
-    ensures { result ≡ list_any claims_something functions.now }
-{
+fn some_claims(functions: &[List<Judged>]) -> bool {
     functions
         .iter()
         .any(|judged| claims_something(judged.as_slice()))
 }
 
 /// Whether one of the ranges of a function is taken.
-pub fn claims_something(judged: &[Judged]) -> bool
-    ensures { result ≡ claims_something judged.now }
-{
+pub fn claims_something(judged: &[Judged]) -> bool {
     judged.iter().any(|one| is_placed(one.fate))
 }
 
 /// Whether the board has the range.
-pub fn is_placed(fate: RangeFate) -> bool
-    ensures { result ≡ is_placed fate }
-{
+pub fn is_placed(fate: RangeFate) -> bool {
     matches!(fate, RangeFate::Taken(_))
 }
 
 /// How many of the targets are on the bus.
-fn count_on(targets: &[DevicePlace], bus: u8) -> usize
-    ensures { result ≡ count_by (λ target. target.bus == bus) targets.now }
-{
+fn count_on(targets: &[DevicePlace], bus: u8) -> usize {
     targets.iter().filter(|target| target.bus == bus).count()
 }
 
-/// How many of the functions, from the first on, are of one device.
-fn run_length(functions: &[Function]) -> usize
-    ensures value { result ≡ run_length functions.now }
-    ensures within { result ≤ length functions.now }
-    ensures some { 0 < length functions.now → 0 < result }
+/// How many of the functions behind the first, from the next on, are of its device.
+fn others_of_device(first: &Function, behind: &[Function]) -> usize
+    ensures { result ≤ length behind.now }
 {
-    let mut place = 0;
-    let mut left = functions;
-    while let [function, behind @ ..] = left {
-        place += 1;
-        if !begins_with(behind, function) {
-            return place;
-        }
-        left = behind;
-    }
-    place
+    behind
+        .iter()
+        .position(|other| !same_device(first, other))
+        .unwrap_or(behind.len())
 }
 
-/// Whether the first of the functions is of the same device.
-fn begins_with(functions: &[Function], function: &Function) -> bool
-    ensures { result ≡ begins_with function.now functions.now }
-{
-    match functions.first() {
-        Some(first) => same_device(function, first),
-        None => false,
-    }
-}
-
-fn same_device(function: &Function, other: &Function) -> bool
-    ensures { result ≡ same_device function.now other.now }
-{
+fn same_device(function: &Function, other: &Function) -> bool {
     function.slot.bus == other.slot.bus && function.slot.device == other.slot.device
 }
 
-fn places_of(alloc: Global, bridges: &[TakenBridge]) -> Result<Vec<DevicePlace>, NoMemory>
-    ensures { IfOk result (λ places. places.items ≡ map place_of bridges.now) }
-{
+fn places_of(alloc: Global, bridges: &[TakenBridge]) -> Result<Vec<DevicePlace>, NoMemory> {
     let mut places = Vec::new(alloc);
     for bridge in bridges {
         places.push(place_of(bridge))?;

@@ -1,7 +1,3 @@
-ghost use Rattle.std.specs.Prelude.{◌≡◌};
-ghost use Rattle.import_targets.specs.declared.fate.RangeFate.TheVariants.{LeftOut};
-ghost use Rattle.import_targets.specs.declared.fate.NoRange.TheVariants.{OfBridge};
-
 use crate::{Flaw, FoundFunction};
 use board_model::Window;
 use pci_command::{List, Space};
@@ -35,16 +31,8 @@ pub enum RangeFate {
     LeftOut(NoRange),
 }
 
-impl Default for RangeFate {
-    ghost is_default = { λ fate. fate ≡ LeftOut OfBridge };
-
-    fn default() -> RangeFate {
-        RangeFate::LeftOut(NoRange::OfBridge)
-    }
-}
-
 /// What a base address register asks for, and what becomes of it.
-#[derive(Clone, Copy, Debug, Default, PartialEq, Eq)]
+#[derive(Clone, Copy, Debug, PartialEq, Eq)]
 pub struct Judged {
     pub found: FoundFunction,
     pub fate: RangeFate,
@@ -52,7 +40,7 @@ pub struct Judged {
 
 /// A range that is taken: its bus by the text, and its addresses.
 #[derive(Clone, Copy, Debug, PartialEq, Eq)]
-pub struct Placed {
+pub(crate) struct Placed {
     pub bus: u8,
     pub space: Space,
     pub span: Window,
@@ -85,11 +73,6 @@ pub struct Device {
 }
 
 impl fmt::Display for NoRange {
-    ghost use Rattle.std.specs.Prelude.{Some};
-    ghost use Rattle.import_targets.specs.Reasons.{no_range_words};
-
-    ghost output = { λ reason. Some (no_range_words reason) };
-
     fn fmt<W: fmt::Write>(&self, f: &mut fmt::Formatter<W>) -> fmt::Result {
         match self {
             NoRange::Flawed(flaw) => write!(f, "{flaw}"),

@@ -34,7 +34,7 @@ pub struct FoundFunction {
 
 /// What the registers of a function ask for, in their order.
 #[tactic(auto, unfolding(crate::specs::Registers::found_in))]
-pub(crate) fn found_in(function: &Function) -> ArrayVec<FoundFunction, 6>
+pub fn found_in(function: &Function) -> ArrayVec<FoundFunction, 6>
     ensures { result.items ≡ found_in function.now }
 {
     let mut found = ArrayVec::new();
@@ -195,11 +195,6 @@ fn behind(function: &Function, n: u8) -> u8
 }
 
 impl fmt::Display for Flaw {
-    ghost use Rattle.std.specs.Prelude.{Some};
-    ghost use Rattle.import_targets.specs.Reasons.{flaw_words};
-
-    ghost output = { λ flaw. Some (flaw_words flaw) };
-
     fn fmt<W: fmt::Write>(&self, f: &mut fmt::Formatter<W>) -> fmt::Result {
         match self {
             Flaw::NoHalf => f.write_str("its upper half is missing"),
@@ -207,11 +202,4 @@ impl fmt::Display for Flaw {
             Flaw::NoSize => f.write_str("its size is not told"),
         }
     }
-}
-
-/// How many of its registers ask for something.
-pub fn found_count(function: &Function) -> usize
-    ensures { result ≡ length (found_in function.now) }
-{
-    found_in(function).len()
 }

@@ -9,6 +9,7 @@ mod functions;
 mod ranges;
 
 pub use devices::{claims_something, devices_of, is_placed};
-pub use fate::{Device, DeviceFate, Judged, NoRange, Placed, RangeFate};
-pub use found::{Flaw, FoundFunction, found_count};
-pub use functions::judged_of_bridge;
+pub use fate::{Device, DeviceFate, Judged, NoRange, RangeFate};
+pub use found::{Flaw, FoundFunction, found_in};
+pub use functions::why_of_bridge;
+pub use ranges::{does_fit, registers_for, span_of};

@@ -1,12 +1,9 @@
-ghost use Rattle.std.specs.Prelude.{◌≡◌, ◌<◌, ◌≤◌, ◌+◌, ◌*◌, ◌^◌, IsTrue, IfNone};
-ghost use Rattle.std.specs.List.{list_any};
-ghost use Rattle.std.specs.Option.{option_copied};
+ghost use Rattle.std.specs.Prelude.{◌≡◌, ◌<◌, ◌≤◌, IsTrue, IfNone};
 ghost use Rattle.import_targets.specs.Ranges.{unit_of, rounded_base, rounded_end, end_of_space};
 ghost use Rattle.import_targets.specs.Ranges.{size_or_zero, fits, does_fit, span_of, registers_for};
-ghost use Rattle.import_targets.specs.Ranges.{meets, meeting, why_not_placed, why_unflawed, why_by};
-ghost use Rattle.import_targets.specs.Ranges.{why_no_range, range_fate, TakesFew};
 
-use crate::{FoundFunction, NoRange, Placed, RangeFate};
+use crate::fate::Placed;
+use crate::{FoundFunction, NoRange, RangeFate};
 use board_model::Window;
 use import_bridges::{TakenBridge, decodes, first_passing, is_reached, shares};
 use import_text::Function;
@@ -55,7 +52,9 @@ fn size_or_zero(size: Option<u64>) -> u64
     size.unwrap_or(0)
 }
 
-fn does_fit(found: &FoundFunction) -> bool
+/// Whether the range that a register asks for, rounded outwards, ends within its space, has an
+/// address, and has not all.
+pub fn does_fit(found: &FoundFunction) -> bool
     ensures { result ≡ does_fit found.now }
 {
     let base = u128::from(rounded_base(found.space, found.base));
@@ -66,7 +65,7 @@ fn does_fit(found: &FoundFunction) -> bool
 
 /// The addresses of the range that a register asks for, rounded outwards to multiples of 64 bytes
 /// in memory and of 4 in I/O.
-pub(crate) fn span_of(found: &FoundFunction) -> Window
+pub fn span_of(found: &FoundFunction) -> Window
     requires { IsTrue (does_fit found.now) }
     ensures { result ≡ span_of found.now }
 {
@@ -77,16 +76,14 @@ pub(crate) fn span_of(found: &FoundFunction) -> Window
 }
 
 /// How many base address registers a range takes.
-pub(crate) fn registers_for(span: Window) -> u32
+pub fn registers_for(span: Window) -> u32
     ensures value { result ≡ registers_for span }
     ensures few { result ≤ 2 }
 {
     if span.base < 0x1_0000_0000 { 1 } else { 2 }
 }
 
-fn meets_placed(placed: &[Placed], bus: u8, space: Space, span: Window) -> bool
-    ensures { result ≡ list_any (meets bus space span) placed.now }
-{
+fn meets_placed(placed: &[Placed], bus: u8, space: Space, span: Window) -> bool {
     placed.iter().any(|one| one.bus == bus && one.space == space && shares(span, one.span))
 }
 
@@ -100,13 +97,8 @@ pub(crate) struct Before<'a> {
     pub used: u32,
 }
 
-fn why_not_placed(before: Before<'_>, bus: u8, space: Space, span: Window) -> Option<NoRange>
-    requires { before.used ≤ 6 }
-    ensures few { IfNone result (before.entry.used + registers_for span ≤ 6) }
-    ensures reason { result ≡ why_not_placed before.entry.root before.entry.bridges.now
-        before.entry.placed.now before.entry.used bus space span }
-{
-    if before.used + registers_for(span) > 6 {
+fn why_not_placed(before: Before<'_>, bus: u8, space: Space, span: Window) -> Option<NoRange> {
+    if before.used.saturating_add(registers_for(span)) > 6 {
         return Some(NoRange::SixRegisters);
     }
     if !is_reached(before.root, before.bridges, bus, space, span) {
@@ -125,12 +117,7 @@ pub(crate) fn range_fate(
     bus: u8,
     function: &Function,
     found: &FoundFunction,
-) -> RangeFate
-    requires { before.used ≤ 6 }
-    ensures few { TakesFew before.entry.used result }
-    ensures fate { result ≡ range_fate before.entry.root before.entry.bridges.now
-        before.entry.placed.now before.entry.used bus function.now found.now }
-{
+) -> RangeFate {
     match why_no_range(before, bus, function, found) {
         Some(reason) => RangeFate::LeftOut(reason),
         None => RangeFate::Taken(span_of(found)),
@@ -143,11 +130,7 @@ fn why_no_range(
     function: &Function,
     found: &FoundFunction,
 ) -> Option<NoRange>
-    requires { before.used ≤ 6 }
-    ensures reason { result ≡ why_no_range before.entry.root before.entry.bridges.now
-        before.entry.placed.now before.entry.used bus function.now found.now }
-    ensures fits { IfNone result (IsTrue (does_fit found.now)) }
-    ensures few { IfNone result (before.entry.used + registers_for (span_of found.now) ≤ 6) }
+    ensures { IfNone result (IsTrue (does_fit found.now)) }
 {
     if let Some(flaw) = found.flaw {
         return Some(NoRange::Flawed(flaw));

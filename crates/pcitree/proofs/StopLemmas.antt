@@ -1,5 +1,5 @@
 -- What a status says where a call stopped with it: that nothing was written, and its cause in the input.
-use Rattle.std.proofs.Common.{◌≡◌, ◌≢◌, ◌↔◌, ℕ, ◌<◌, ◌≤◌, List, ◌++◌, append-nil, length, Option, Some, None, IfSome, IsSome, inl, inr, refl, sym, subst, ap, ◌∙◌, arith}
+use Rattle.std.proofs.Common.{◌≡◌, ◌≢◌, ◌↔◌, ◌⊎◌, ℕ, ◌<◌, ◌≤◌, List, ◌++◌, append-nil, length, Option, Some, None, IfSome, IsSome, inl, inr, refl, sym, subst, ap, ◌∙◌, arith}
 use Rattle.std.specs.Io.KnownBytes.{Consumes, IsAtEnd}
 use Rattle.io_ports.specs.Faults.{Rose}
 use Rattle.program_status.specs.declared.status.Status.{Status}
@@ -7,7 +7,7 @@ use Rattle.program_status.specs.declared.status.Status.TheVariants.{ReadFault, W
 use Rattle.program_status.specs.Subjects.{Subject, subject_of, IsSuccess, IsUsage, IsRefusal, IsBeforeWriting, Serves}
 use Rattle.program_status.specs.Subjects.Subject.{Success, Memory, Words, Reading, Writing, Length, Input}
 use Rattle.program_input.specs.Refusals.{IsRefusing}
-use Rattle.program_input.proofs.RefusalLemmas.{board_refusing}
+use Rattle.program_input.proofs.RefusalLemmas.{board_refusing, refused_by_memory}
 use Rattle.command_traces.proofs.check.ServedLemmas.{check_refusing}
 use Rattle.command_runs.proofs.finish.ServedLemmas.{finish_refusing}
 use Rattle.command_traces.proofs.run.RunLemmas.{run_refusing}
@@ -18,6 +18,7 @@ use Rattle.command_traces.specs.draw.Rows.{rows_asked}
 use Rattle.command_traces.specs.draw.Operations.{operation_asked}
 use Rattle.command_traces.proofs.fill.ServedLemmas.{fill_refusing}
 use Rattle.command_traces.proofs.untagged.ServedLemmas.{untagged_refusing}
+use Rattle.command_boards.specs.import.Answers.{machine_refusal, GivesUp}
 use Rattle.command_boards.proofs.import.ServedLemmas.{import_refusing}
 use Rattle.command_safe.proofs.safe.EndingLemmas.{safe_succeeds}
 use Rattle.command_safe.proofs.adverse.ServedLemmas.{adverse_refusing}
@@ -25,7 +26,7 @@ use Rattle.command_observe.proofs.ServedLemmas.{observe_refusing, acts_succeed}
 use Rattle.program_words.specs.declared.Form.{Form}
 use Rattle.program_words.specs.declared.Form.TheVariants as forms
 use Rattle.pcitree.specs.Words.{command_of, rows_in, operation_in, read_in, write_in}
-use Rattle.pcitree.specs.Answers.{limit_of, AnswersTo, Refuses, IsServed, IsAnswered, CausesBy, Causes}
+use Rattle.pcitree.specs.Answers.{limit_of, AnswersTo, Refuses, IsServed, IsServedMachine, IsAnswered, CausesBy, Causes}
 use Rattle.pcitree.specs.Given.{given, left}
 use Rattle.pcitree.specs.Ends.{HoldsTooMuch, ReadsInput, AnswersInput, RefusesInput, Finishes, StopsInText}
 use Rattle.pcitree.specs.Stops.{StopsBy, StopsAnswering, StopsRunning}
@@ -132,6 +133,24 @@ served_as Input form words input status is served cause =
 
 pub served_by : (form : Form) (words : List (List ℕ)) (input : List ℕ) (status : Status) → IsServed form words input → Causes form words input status → Serves status
 served_by form words input status served cause = served_as (subject_of status) form words input status refl served cause
+
+import_served_as : (subject : Subject) (words : List (List ℕ)) (input : List ℕ) (status : Status) → subject_of status ≡ subject → IsServedMachine input → CausesBy subject forms.Import words input status
+    → ((subject ≢ Words) × (subject ≢ Length) × (subject ≢ Input)) ⊎ GivesUp input status
+import_served_as Success words input status is served cause = inl (λ e. cc, λ e. cc, λ e. cc)
+import_served_as Memory words input status is served cause = inl (λ e. cc, λ e. cc, λ e. cc)
+import_served_as Words words input status is served cause = absurd cause
+import_served_as Reading words input status is served cause = inl (λ e. cc, λ e. cc, λ e. cc)
+import_served_as Writing words input status is served cause = inl (λ e. cc, λ e. cc, λ e. cc)
+import_served_as Length words input status is served cause = absurd (omega (arith, served.within, cause))
+import_served_as Input words input status is served cause =
+    elim cause.1 [
+      | inl refuses ↦ (let memory : subject_of status ≡ Memory = ap subject_of (refused_by_memory (machine_refusal input) status served.faultless refuses) in absurd cc)
+      | inr given_up ↦ inr given_up
+    ]
+
+-- what `lspci` wrote is answered, or given up
+pub import_served_by : (words : List (List ℕ)) (input : List ℕ) (status : Status) → IsServedMachine input → Causes forms.Import words input status → Serves status ⊎ GivesUp input status
+import_served_by words input status served cause = import_served_as (subject_of status) words input status refl served cause
 
 -- an answer that ends well does not find the words nor the input wrong, and is none of a part that stopped
 pub success_serves : (status : Status) → IsSuccess status → Serves status

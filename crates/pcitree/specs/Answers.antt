@@ -1,7 +1,9 @@
 -- How an input is answered for words of each form, and the cause of each answer.
-use Rattle.std.specs.Prelude.{ℕ, ◌≤◌, ◌<◌, List, length}
+use Rattle.std.specs.Prelude.{ℕ, ◌≡◌, ◌≤◌, ◌<◌, List, length, None}
 use Rattle.program_status.specs.declared.status.Status.{Status}
 use Rattle.program_words.specs.declared.Form.{Form}
+use Rattle.program_words.specs.declared.Form.TheVariants as forms
+use Rattle.command_boards.specs.import.Answers.{machine_refusal}
 use Rattle.pcitree.specs.Words.{command_of}
 use Rattle.program_status.specs.Subjects.{Subject, subject_of}
 use Rattle.program_status.specs.Subjects.Subject.{Success, Memory, Words, Reading, Writing, Length, Input}
@@ -26,6 +28,11 @@ IsFaultless form words input = (command_of form words).IsFaultless input
 -- an input within its limit, without fault
 abbrev pub IsServed : Form → List (List ℕ) → List ℕ → Type 0
 IsServed form words input = (length input ≤ limit_of form) × IsFaultless form words input
+
+-- what `lspci` wrote, within the limit of `import`, without fault
+pub record IsServedMachine (input : List ℕ) : Type 0 where
+  pub within : length input ≤ limit_of forms.Import
+  pub faultless : machine_refusal input ≡ None
 
 -- a text answers the input, and ends with this status
 pub record IsAnswered (form : Form) (words : List (List ℕ)) (input : List ℕ) (ending : Status) : Type 0 where

@@ -24,7 +24,7 @@ use Rattle.command_boards.specs.combine.Answers.{AnswersCombine}
 use Rattle.command_runs.specs.generate.Answers.{names_rounds, AnswersGenerate, RefusesGenerate, NamesRounds}
 use Rattle.command_runs.specs.devices.Answers.{AnswersDevices}
 use Rattle.program_input.specs.Devices.{RefusesDevices, IsDeviceText}
-use Rattle.command_boards.specs.import.Answers.{AnswersImport, RefusesImport, IsMachineText}
+use Rattle.command_boards.specs.import.Answers.{AnswersImport, RefusesImport, IsImportedSurely}
 use Rattle.command_boards.specs.tree.Answers.{AnswersTree}
 use Rattle.program_input.specs.Protocols.{RefusesProtocol, IsProtocolText}
 use Rattle.command_safe.specs.safe.Answers.{AnswersSafe}
@@ -194,7 +194,7 @@ command_of forms.DrawOperation words = record {
 command_of forms.Import words = record {
   Answers = WithDone AnswersImport;
   Refuses = RefusesImport;
-  IsFaultless = IsMachineText;
+  IsFaultless = IsImportedSurely;
   writes_run = false;
 }
 command_of forms.Tree words = record {

@@ -1,10 +1,11 @@
-ghost use Rattle.std.specs.Prelude.{◌≡◌, ◌≤◌, ◌↔◌, ℕ, true, List, [], length, Some, None, IsSome, OnOk, IfOk, IfErr, IfSome};
+ghost use Rattle.std.specs.Prelude.{◌≡◌, ◌≤◌, ◌↔◌, ◌⊎◌, ℕ, true, List, [], length, Some, None, IsSome, OnOk, IfOk, IfErr, IfSome};
 ghost use Rattle.io_ports.specs.Faults.{Rose};
 ghost use Rattle.program_words.specs.declared.Form.{Form as WordForm};
 ghost use Rattle.pcitree.specs.Words.{is_of, form_of, misfit};
 ghost use Rattle.pcitree.specs.Given.{number_of, given, left, IsGiven, reads_file};
 ghost use Rattle.program_status.specs.Subjects.{IsSuccess, IsUsage, IsRefusal, IsBeforeWriting, Serves};
-ghost use Rattle.pcitree.specs.Answers.{IsServed, Causes};
+ghost use Rattle.pcitree.specs.Answers.{IsServed, IsServedMachine, Causes};
+ghost use Rattle.command_boards.specs.import.Answers.{GivesUp};
 ghost use Rattle.pcitree.specs.Ends.{ReadsInput, AnswersInput, RefusesInput, Finishes, StopsInText, WritesRun, writes_run};
 ghost use Rattle.pcitree.specs.Stops.{StopsAnswering, StopsServing, StopsRunning};
 ghost use Rattle.program_words.specs.Shapes.{parts_of};
@@ -70,6 +71,11 @@ pub fn pcitree<R: Threads + Sync, S: Source, K: Sink, G: Gate + Sync>(
     ensures served { (form : WordForm) (input : List ℕ) → form_of words.now ≡ Some form
         → given form words.now (S.held source.old) ≡ Some input
         → IsServed form words.now input → Serves result }
+    // What `lspci` wrote is answered too, or it is given up (I5).
+    ensures served_import { (input : List ℕ)
+        → form_of words.now ≡ Some WordForm.Import
+        → given WordForm.Import words.now (S.held source.old) ≡ Some input
+        → IsServedMachine input → Serves result ⊎ GivesUp input result }
 {
     written_runs_are_complete();
     finished_traces_are_complete();

@@ -1,8 +1,9 @@
-use Rattle.std.proofs.Common.{ap}
+use Rattle.std.proofs.Common.{ap, inl}
 use Rattle.program_status.specs.Subjects.{subject_of}
 use Rattle.program_status.specs.Subjects.Subject.{Words, Reading, Writing, Input}
-use Rattle.pcitree.proofs.StopLemmas.{finished, succeeded, success_usage, success_only, success_serves, unwritten, not_done, usage_exactly, usage_unread, read_failed, write_failed, refused_in, caused_by, served_by}
+use Rattle.pcitree.proofs.StopLemmas.{finished, succeeded, success_usage, success_only, success_serves, unwritten, not_done, usage_exactly, usage_unread, read_failed, write_failed, refused_in, caused_by, served_by, import_served_by}
 use Rattle.pcitree.proofs.WrittenLemmas.{run_is_written}
+use Rattle.program_words.specs.declared.Form.TheVariants as forms
 use Rattle.pcitree.proofs.program.pcitree.Goals as goal
 
 pub returns-in-Ok-clause-usage : goal.returns-in-Ok-clause-usage
@@ -44,6 +45,9 @@ returns-in-Ok-clause-cause g c = λ form input there is. finished _ form _ _ _ _
 pub returns-in-Ok-clause-served : goal.returns-in-Ok-clause-served
 returns-in-Ok-clause-served g c = λ form input there is served. success_serves _ (succeeded _ _ _ _ _ _ _ c.in-Ok.ensures.form c.in-Ok.ensures.done)
 
+pub returns-in-Ok-clause-served_import : goal.returns-in-Ok-clause-served_import
+returns-in-Ok-clause-served_import g c = λ input there is served. inl (success_serves _ (succeeded _ _ _ _ _ _ _ c.in-Ok.ensures.form c.in-Ok.ensures.done))
+
 pub returns-in-Err-clause-usage : goal.returns-in-Err-clause-usage
 returns-in-Err-clause-usage g c = usage_exactly _ _ _ _ _ _ _ _ _ _ _ _ _ c.in-Err.ensures.stopped
 
@@ -79,3 +83,6 @@ returns-in-Err-clause-cause g c = λ form input there is. caused_by _ _ _ _ _ _ 
 
 pub returns-in-Err-clause-served : goal.returns-in-Err-clause-served
 returns-in-Err-clause-served g c = λ form input there is served. served_by form _ input _ served (caused_by _ _ _ _ _ _ _ form _ _ _ _ _ _ input there is c.in-Err.ensures.stopped)
+
+pub returns-in-Err-clause-served_import : goal.returns-in-Err-clause-served_import
+returns-in-Err-clause-served_import g c = λ input there is served. import_served_by _ input _ served (caused_by _ _ _ _ _ _ _ forms.Import _ _ _ _ _ _ input there is c.in-Err.ensures.stopped)
