@@ -4,3 +4,4 @@ pub mod Tries
 pub mod Waits
 pub mod Kept
 pub mod columns
+pub mod style

@@ -1,5 +1,5 @@
 -- A page of strips, in each of which the elements are drawn that pass it, has in each strip the items that have a row there.
-use Rattle.std.proofs.Common.{◌≡◌, ℕ, zero, suc, ◌+◌, ◌-◌, ◌*◌, ◌/◌, ◌<◌, ◌≤◌, Bool, true, false, cond, ◌&&◌, nat_le, min, List, [], ◌∷◌, ◌++◌, length, map, get_or, slice_get, Option, Some, None, codes, refl, sym, ap, subst, ◌∙◌, append_assoc, arith}
+use Rattle.std.proofs.Common.{◌≡◌, ℕ, zero, suc, ◌+◌, ◌-◌, ◌*◌, ◌/◌, ◌<◌, ◌≤◌, Bool, true, false, cond, ◌&&◌, nat_le, min, List, [], ◌∷◌, ◌++◌, length, map, get_or, slice_get, Option, Some, None, codes, refl, sym, ap, subst, ◌∙◌, append_assoc, arith, ⊥}
 use Rattle.std.specs.List.{flat_map, filter}
 use Rattle.std.proofs.lemmas.Bool.Decides.{nat_tests}
 use Rattle.std.proofs.lemmas.List.{map-append}
@@ -23,10 +23,10 @@ same_page board items end first last end' first' last' text is_end is_first is_l
     (subst (λ (f : ℕ). IsPage board items end f last' text) is_first
     (subst (λ (l : ℕ). IsPage board items end first l text) is_last page))
 
-titles_of : List Shape → List (List ℕ)
+abbrev titles_of : List Shape → List (List ℕ)
 titles_of shapes = map titled (filter is_titled shapes)
 
-title_in : Caption → List ℕ
+abbrev title_in : Caption → List ℕ
 title_in caption = caption.title
 
 and_false : (b : Bool) → (b && false) ≡ false
@@ -60,11 +60,11 @@ seen_in first last k from to e =
     (le_less low to first (and_right (nat_le from high) (nat_le low to) e) (omega arith))
 
 module _ (frame : Frame) (k : ℕ) where
-  is_there : Caption → Bool
+  abbrev is_there : Caption → Bool
   is_there caption = is_in_strip frame.first frame.last k caption.from caption.to
 
   -- the shapes of the elements that pass the strip
-  shapes_in : List Placed → List Shape
+  abbrev shapes_in : List Placed → List Shape
   shapes_in [] = []
   shapes_in (element ∷ elements) = cond (is_in_strip frame.first frame.last k element.from element.to) (element.shape ∷ shapes_in elements) (shapes_in elements)
 
@@ -109,7 +109,7 @@ module _ (frame : Frame) (k : ℕ) where
         ∙ ap (λ (t : List ℕ). t ∷ map title_in kept) same
         ∙ ap (λ (l : List (List ℕ)). title_text board item ∷ l) so
     items_one true true false one captions item items is within same so = so
-    items_one true false has one captions item items is within same so = absurd (grind (within refl))
+    items_one true false has one captions item items is within same so = absurd (let e : false ≡ true = within refl in let f : false ≡ true → ⊥ = λ e. cc in f e)
     items_one false true true one captions item items is within same so =
         let kept : List Caption = filter is_there captions in
         ap (λ (b : Bool). map title_in (cond b (one ∷ kept) kept)) is ∙ so
@@ -129,7 +129,7 @@ module _ (frame : Frame) (k : ℕ) where
 
 module _ (frame : Frame) (elements : List Placed) where
   -- the strips from number n on: what each begins with, and behind it what passes it
-  strips_from : ℕ → List (List ℕ) → List (List Shape)
+  abbrev strips_from : ℕ → List (List ℕ) → List (List Shape)
   strips_from n [] = []
   strips_from n (sheet ∷ sheets) = (Plain sheet ∷ shapes_in frame n elements) ∷ strips_from (n + 1) sheets
 

@@ -24,7 +24,7 @@ use std::alloc::{AllocError, Global};
 /// The page of a run, complete or not, or of one and an event behind it that is not allowed, the
 /// oldest first; drawn are the events from number `first` to number `last`. Its items are what the
 /// lanes of the machine have in that run, at each moment of it.
-pub fn page_of(
+pub fn drawn_page(
     alloc: Global,
     tree: &Tree,
     events: &[Event],

@@ -1,5 +1,5 @@
 -- Captions, element by element.
-use Rattle.std.proofs.Common.{◌≡◌, List, [], ◌∷◌, ◌++◌, refl, ap, ◌∙◌, append-nil}
+use Rattle.std.proofs.Common.{◌≡◌, List, [], ◌∷◌, ◌++◌, refl, sym, ap, ◌∙◌, append-nil}
 use Rattle.std.proofs.lemmas.Grind.{flat_map-append}
 use Rattle.draw_shapes.specs.Shapes.{Placed, Caption, caption_in, captions_in}
 
@@ -15,4 +15,4 @@ nothing_more before after is = is ∙ append-nil before
 
 -- the same the other way round
 pub no_captions : (before after : List Caption) → after ≡ before → after ≡ before ++ []
-no_captions before after is = grind (append-nil)
+no_captions before after is = is ∙ sym (append-nil before)

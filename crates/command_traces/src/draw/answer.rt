@@ -13,7 +13,7 @@ use crate::draw::operation::rows_of_operation;
 use crate::draw::rows::Rows;
 use crate::draw::shown::shown_of;
 use board_tree::Tree;
-use draw_page::page_of;
+use draw_page::drawn_page;
 use draw_told::Close;
 use history_model::Event;
 use pci_command::{List, NoMemory};
@@ -90,7 +90,7 @@ fn answer_rows(
         let events = u64::from(drawn);
         return Err(Status::TooManyEvents { events });
     }
-    match page_of_rows(alloc, tree, events, close, rows) {
+    match page_in_rows(alloc, tree, events, close, rows) {
         Ok(page) => Ok(Answered {
             text: page.into_vec(),
             ending: ending_of(count, close),
@@ -145,7 +145,7 @@ fn drawn_count(close: Close, rows: Option<Rows>, count: u32) -> u32
     (last + 1).saturating_sub(first_row(close, rows, count))
 }
 
-fn page_of_rows(
+fn page_in_rows(
     alloc: Global,
     tree: &Tree,
     events: &[Event],
@@ -160,5 +160,5 @@ fn page_of_rows(
     let count = events.len() as u32;
     let first = first_row(close, rows, count);
     let last = last_row(rows, count);
-    page_of(alloc, tree, events, close, first, last)
+    drawn_page(alloc, tree, events, close, first, last)
 }

@@ -1,3 +1,7 @@
+ghost use Rattle.std.specs.Prelude.{◌≡◌, ◌++◌, string_bytes, OnOk};
+ghost use Rattle.draw_items.specs.style.Styles.{colours, page, classes, marks, style, lines, signs};
+ghost use Rattle.draw_items.specs.style.Styles.{key};
+
 use std::alloc::AllocError;
 
 /// The colours: light or dark by the reader's setting.
@@ -89,32 +93,53 @@ const SIGNS: &str = "\
     </g></svg> landed, then read by one who was told</span>\n\
     </p>\n";
 
-fn print_colours(text: &mut String) -> Result<(), AllocError> {
+#[tactic(auto, unfolding(crate::specs::style::Styles::colours))]
+fn print_colours(text: &mut String) -> Result<(), AllocError>
+    ensures { OnOk result (string_bytes text.new ≡ string_bytes text.old ++ colours) }
+{
     text.push_str(COLOURS)
 }
 
-fn print_page(text: &mut String) -> Result<(), AllocError> {
+#[tactic(auto, unfolding(crate::specs::style::Styles::page))]
+fn print_page(text: &mut String) -> Result<(), AllocError>
+    ensures { OnOk result (string_bytes text.new ≡ string_bytes text.old ++ page) }
+{
     text.push_str(PAGE)
 }
 
-fn print_classes(text: &mut String) -> Result<(), AllocError> {
+#[tactic(auto, unfolding(crate::specs::style::Styles::classes))]
+fn print_classes(text: &mut String) -> Result<(), AllocError>
+    ensures { OnOk result (string_bytes text.new ≡ string_bytes text.old ++ classes) }
+{
     text.push_str(CLASSES)
 }
 
-fn print_marks(text: &mut String) -> Result<(), AllocError> {
+#[tactic(auto, unfolding(crate::specs::style::Styles::marks))]
+fn print_marks(text: &mut String) -> Result<(), AllocError>
+    ensures { OnOk result (string_bytes text.new ≡ string_bytes text.old ++ marks) }
+{
     text.push_str(MARKS)
 }
 
-fn print_lines(text: &mut String) -> Result<(), AllocError> {
+#[tactic(auto, unfolding(crate::specs::style::Styles::lines))]
+fn print_lines(text: &mut String) -> Result<(), AllocError>
+    ensures { OnOk result (string_bytes text.new ≡ string_bytes text.old ++ lines) }
+{
     text.push_str(LINES)
 }
 
-fn print_signs(text: &mut String) -> Result<(), AllocError> {
+#[tactic(auto, unfolding(crate::specs::style::Styles::signs))]
+fn print_signs(text: &mut String) -> Result<(), AllocError>
+    ensures { OnOk result (string_bytes text.new ≡ string_bytes text.old ++ signs) }
+{
     text.push_str(SIGNS)
 }
 
 /// The style of a page, behind a text.
-pub fn print_style(text: &mut String) -> Result<(), AllocError> {
+#[tactic(auto, unfolding(crate::specs::style::Styles::style))]
+pub fn print_style(text: &mut String) -> Result<(), AllocError>
+    ensures { OnOk result (string_bytes text.new ≡ string_bytes text.old ++ style) }
+{
     print_colours(text)?;
     print_page(text)?;
     print_classes(text)?;
@@ -122,7 +147,10 @@ pub fn print_style(text: &mut String) -> Result<(), AllocError> {
 }
 
 /// The key of signs, behind a text.
-pub fn print_key(text: &mut String) -> Result<(), AllocError> {
+#[tactic(auto, unfolding(crate::specs::style::Styles::key))]
+pub fn print_key(text: &mut String) -> Result<(), AllocError>
+    ensures { OnOk result (string_bytes text.new ≡ string_bytes text.old ++ key) }
+{
     print_lines(text)?;
     print_signs(text)
 }

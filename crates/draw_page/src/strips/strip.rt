@@ -1,4 +1,4 @@
-ghost use Rattle.std.specs.Prelude.{◌≡◌, ◌++◌, ◌<◌, length, IfOk, OnOk};
+ghost use Rattle.std.specs.Prelude.{◌≡◌, ◌++◌, ◌<◌, ◌≤◌, length, IfOk, OnOk};
 ghost use Rattle.std.proofs.Math.ListN.{set};
 ghost use Rattle.draw_shapes.specs.Shapes.{shape_text};
 ghost use Rattle.draw_page.specs.strips.Strips.{strips_count};
@@ -73,7 +73,9 @@ fn foot_of(frame: &Frame, strip: u32) -> u64 {
 }
 
 /// The last row of a strip.
-fn high_row(frame: &Frame, strip: u32) -> u64 {
+fn high_row(frame: &Frame, strip: u32) -> u64
+    ensures { result ≤ frame.now.last }
+{
     (u64::from(frame.first) + 32 * u64::from(strip) + 31).min(u64::from(frame.last))
 }
 
