@@ -1,9 +1,7 @@
 -- A page of strips, in each of which the elements are drawn that pass it, has in each strip the items that have a row there.
-use Rattle.std.proofs.Common.{◌≡◌, ℕ, zero, suc, ◌+◌, ◌-◌, ◌*◌, ◌/◌, ◌<◌, ◌≤◌, Bool, true, false, cond, ◌&&◌, nat_le, min, List, [], ◌∷◌, ◌++◌, length, map, get_or, slice_get, Option, Some, None, codes, refl, sym, ap, subst, ◌∙◌, append_assoc, arith}
+use Rattle.std.proofs.Common.{◌≡◌, ℕ, zero, suc, ◌+◌, ◌*◌, ◌<◌, ◌≤◌, Bool, true, false, cond, ◌&&◌, nat_le, min, List, [], ◌∷◌, ◌++◌, length, map, get_or, slice_get, Some, codes, refl, sym, ap, subst, ◌∙◌, append_assoc, arith}
 use Rattle.std.specs.List.{flat_map, filter}
 use Rattle.std.proofs.lemmas.Bool.Decides.{nat_tests}
-use Rattle.std.proofs.lemmas.List.{map-append}
-use Rattle.std.proofs.lemmas.List.Elements.{filter-append}
 use Rattle.std.proofs.lemmas.Option.{none-some, same_Some}
 use Rattle.board_model.specs.declared.board.Board.{Board}
 use Rattle.draw_items.specs.declared.journey.Journey.{Journey}
@@ -12,7 +10,7 @@ use Rattle.draw_shapes.specs.declared.frame.Frame.{Frame}
 use Rattle.draw_shapes.specs.Shapes.{Shape, Placed, Caption, shape_text, is_titled, titled, caption_of, captions_in, is_among, has_title, item_captions}
 use Rattle.draw_shapes.specs.Shapes.Shape.{Plain, Titled}
 use Rattle.draw_page.specs.strips.Strips.{is_in_strip, strips_count, passing, row_text}
-use Rattle.draw_page.specs.strips.Kept.{text_at, DrawsAll, PrintsStrips}
+use Rattle.draw_page.specs.strips.Kept.{PrintsStrips}
 use Rattle.draw_page.specs.Pages.{IsPage, strip_text, has_row}
 
 -- the same page by other words for its rows

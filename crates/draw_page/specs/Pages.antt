@@ -1,5 +1,5 @@
 -- The page of a picture: some text, and behind it the strips, each with the items that have a row in it.
-use Rattle.std.specs.Prelude.{◌≡◌, ℕ, ◌+◌, ◌-◌, ◌*◌, ◌/◌, Bool, ◌&&◌, min, List, ◌++◌, length, map, codes, Some, slice_get}
+use Rattle.std.specs.Prelude.{◌≡◌, ℕ, ◌+◌, ◌-◌, ◌/◌, Bool, ◌&&◌, List, ◌++◌, length, map, codes, Some, slice_get}
 use Rattle.std.specs.List.{flat_map, filter}
 use Rattle.board_model.specs.declared.board.Board.{Board}
 use Rattle.history_model.specs.declared.event.Event.{Event}

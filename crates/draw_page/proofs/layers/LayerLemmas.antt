@@ -1,5 +1,5 @@
 -- Before the first element there is no caption.
-use Rattle.std.proofs.Common.{◌≡◌, List, [], ◌++◌, refl, ap, ◌∙◌}
+use Rattle.std.proofs.Common.{◌≡◌, List, [], ◌++◌, ap, ◌∙◌}
 use Rattle.draw_shapes.specs.Shapes.{Placed, Caption, captions_in}
 
 -- from no elements on: none before, the same behind them, and then these
