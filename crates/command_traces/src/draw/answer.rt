@@ -145,6 +145,7 @@ fn drawn_count(close: Close, rows: Option<Rows>, count: u32) -> u32
     (last + 1).saturating_sub(first_row(close, rows, count))
 }
 
+#[tactic(auto, using(crate::proofs::draw::AnswerLemmas::drawn_rows))]
 fn page_in_rows(
     alloc: Global,
     tree: &Tree,
