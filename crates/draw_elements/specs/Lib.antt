@@ -1,4 +1,1 @@
-pub mod Heights
-pub mod Labels
-pub mod Items
-pub mod Acts
+pub mod Titles

@@ -1,10 +1,3 @@
-ghost use Rattle.std.specs.Prelude.{◌≡◌, ◌++◌, codes, if◌then◌else◌, string_bytes, OnOk};
-ghost use Rattle.board_model.specs.Requests.{request_of};
-ghost use Rattle.draw_elements.specs.Acts.{bar_of, begin_of, end_at, end_of, act_of, head_text};
-ghost use Rattle.draw_elements.specs.Acts.{line_path, line_element, round_element, goes_right};
-ghost use Rattle.draw_elements.specs.Acts.{cross_element, aside, nobody_element, writes_memory};
-ghost use Rattle.draw_elements.specs.Acts.{act_class, act_body, act_text, act_rim};
-
 use crate::height::{print_circle, row_middle};
 use crate::words::faint;
 use board_model::{Board, Lane, Place, request_of};
@@ -45,9 +38,7 @@ impl Act {
         line: ActLine,
         item: Option<Journey>,
         taken: Option<Journey>,
-    ) -> Act
-        ensures { result ≡ act_of columns.now line.by line.op line.step line.place item taken }
-    {
+    ) -> Act {
         Act {
             begin: begin_of(columns, line.by, line.op, item),
             end: end_of(columns, line, taken),
@@ -55,34 +46,26 @@ impl Act {
     }
 
     /// Whether it goes to the right.
-    fn goes_right(&self) -> bool
-        ensures { result ≡ goes_right self.now }
-    {
+    fn goes_right(&self) -> bool {
         self.begin < self.end
     }
 }
 
-fn bar_of(columns: &Columns, item: Option<Journey>) -> u64
-    ensures { result ≡ bar_of columns.now item }
-{
+fn bar_of(columns: &Columns, item: Option<Journey>) -> u64 {
     match item {
         Some(item) => columns.bar(item.lane, item.track),
         None => 0,
     }
 }
 
-fn begin_of(columns: &Columns, by: By, op: OpId, item: Option<Journey>) -> u64
-    ensures { result ≡ begin_of columns.now by op item }
-{
+fn begin_of(columns: &Columns, by: By, op: OpId, item: Option<Journey>) -> u64 {
     match by {
         By::Master => columns.master(op.master),
         By::Lane(_) => bar_of(columns, item),
     }
 }
 
-fn end_of(columns: &Columns, line: ActLine, taken: Option<Journey>) -> u64
-    ensures { result ≡ end_of columns.now line.step line.place taken }
-{
+fn end_of(columns: &Columns, line: ActLine, taken: Option<Journey>) -> u64 {
     match line.place {
         Place::Target(target) => columns.target(target),
         Place::Header(bus) => columns.face(Lane { bus, up: true }),
@@ -91,9 +74,7 @@ fn end_of(columns: &Columns, line: ActLine, taken: Option<Journey>) -> u64
     }
 }
 
-fn end_at(columns: &Columns, lane: Lane, taken: Option<Journey>, step: Step) -> u64
-    ensures { result ≡ end_at columns.now lane taken step }
-{
+fn end_at(columns: &Columns, lane: Lane, taken: Option<Journey>, step: Step) -> u64 {
     match step {
         Step::Take(_) => bar_of(columns, taken),
         Step::Land
@@ -108,17 +89,13 @@ fn end_at(columns: &Columns, lane: Lane, taken: Option<Journey>, step: Step) -> 
 }
 
 /// An arrow head with its point at a place of row n, to the right or to the left.
-#[tactic(auto, unfolding(crate::specs::Acts::head_text))]
 pub fn print_head(
     text: &mut String,
     first: u32,
     n: u32,
     x: u64,
     right: bool,
-) -> Result<(), AllocError>
-    ensures { OnOk result (string_bytes text.new ≡ string_bytes text.old ++
-        head_text first n x right) }
-{
+) -> Result<(), AllocError> {
     let back = if right { "l-7" } else { "l7" };
     write!(
         text,
@@ -127,52 +104,36 @@ pub fn print_head(
     )
 }
 
-fn print_path(text: &mut String, first: u32, n: u32, act: &Act) -> Result<(), AllocError>
-    ensures { OnOk result (string_bytes text.new ≡ string_bytes text.old ++
-        line_path first n act.now) }
-{
+fn print_path(text: &mut String, first: u32, n: u32, act: &Act) -> Result<(), AllocError> {
     write!(text, "M{} {}H{}", act.begin, row_middle(first, n), act.end)
 }
 
-#[tactic(auto, unfolding(crate::specs::Acts::line_element))]
-fn print_line(text: &mut String, first: u32, n: u32, act: &Act) -> Result<(), AllocError>
-    ensures { OnOk result (string_bytes text.new ≡ string_bytes text.old ++
-        line_element first n act.now) }
-{
+fn print_line(text: &mut String, first: u32, n: u32, act: &Act) -> Result<(), AllocError> {
     text.push_str("<path d=\"")?;
     print_path(text, first, n, act)?;
     text.push_str("\"/>")
 }
 
 /// A line with a circle at its end.
-#[tactic(auto, unfolding(crate::specs::Acts::round_element))]
 fn print_round(
     text: &mut String,
     first: u32,
     n: u32,
     act: &Act,
     radius: u8,
-) -> Result<(), AllocError>
-    ensures { OnOk result (string_bytes text.new ≡ string_bytes text.old ++
-        round_element first n act.now radius) }
-{
+) -> Result<(), AllocError> {
     print_line(text, first, n, act)?;
     print_circle(text, first, n, act.end, radius)
 }
 
-fn print_cross(text: &mut String, first: u32, n: u32, act: &Act) -> Result<(), AllocError>
-    ensures { OnOk result (string_bytes text.new ≡ string_bytes text.old ++
-        cross_element first n act.now) }
-{
+fn print_cross(text: &mut String, first: u32, n: u32, act: &Act) -> Result<(), AllocError> {
     text.push_str("<path d=\"")?;
     print_path(text, first, n, act)?;
     text.push_str("m-4 -4l8 8m0 -8l-8 8\"/>")
 }
 
 /// Where the cross stands of what nobody claims: to the right of a master, and away from a face.
-fn aside(columns: &Columns, by: By) -> &'static str
-    ensures { result.now ≡ aside columns.now by }
-{
+fn aside(columns: &Columns, by: By) -> &'static str {
     match by {
         By::Master => "12",
         By::Lane(lane) => { if columns.is_left(lane) { "12" } else { "-12" } }
@@ -186,10 +147,7 @@ fn print_nobody(
     n: u32,
     by: By,
     act: &Act,
-) -> Result<(), AllocError>
-    ensures { OnOk result (string_bytes text.new ≡ string_bytes text.old ++
-        nobody_element columns.now first n by act.now) }
-{
+) -> Result<(), AllocError> {
     write!(
         text,
         "<path d=\"M{} {}h{}m-4 -4l8 8m0 -8l-8 8\"/>",
@@ -205,10 +163,7 @@ fn print_class(
     bus: u8,
     op: OpId,
     step: Step,
-) -> Result<(), AllocError>
-    ensures { OnOk result (string_bytes text.new ≡ string_bytes text.old ++
-        act_class (request_of board.now op bus) step) }
-{
+) -> Result<(), AllocError> {
     match step {
         Step::Land => print_landing(text, board, bus, op),
         Step::Part(_) | Step::Accept => text.push_str("p"),
@@ -218,10 +173,7 @@ fn print_class(
     }
 }
 
-fn print_landing(text: &mut String, board: &Board, bus: u8, op: OpId) -> Result<(), AllocError>
-    ensures { OnOk result (string_bytes text.new ≡ string_bytes text.old ++
-        (if writes_memory (request_of board.now op bus) then codes "p" else codes "a")) }
-{
+fn print_landing(text: &mut String, board: &Board, bus: u8, op: OpId) -> Result<(), AllocError> {
     match request_of(board, op, bus) {
         Some(request) => {
             if request.command == Command::MemWrite {
@@ -241,10 +193,7 @@ fn print_body(
     by: By,
     act: &Act,
     step: Step,
-) -> Result<(), AllocError>
-    ensures { OnOk result (string_bytes text.new ≡ string_bytes text.old ++
-        act_body columns.now row.first row.n by act.now step) }
-{
+) -> Result<(), AllocError> {
     let first = row.first;
     let n = row.n;
     match step {
@@ -275,11 +224,7 @@ pub fn print_act(
     row: ActRow,
     line: ActLine,
     act: &Act,
-) -> Result<(), AllocError>
-    ensures { OnOk result (string_bytes text.new ≡ string_bytes text.old ++
-        act_text board.now columns.now row.first row.n row.pale
-        line.bus line.by line.op line.step act.now) }
-{
+) -> Result<(), AllocError> {
     text.push_str("<g class=\"")?;
     print_class(text, board, line.bus, line.op, line.step)?;
     write!(text, "{}\">", faint(row.pale))?;
@@ -288,10 +233,7 @@ pub fn print_act(
 }
 
 /// The rim of an act that somebody claims.
-pub fn print_act_rim(text: &mut String, first: u32, n: u32, act: &Act) -> Result<(), AllocError>
-    ensures { OnOk result (string_bytes text.new ≡ string_bytes text.old ++
-        act_rim first n act.now) }
-{
+pub fn print_act_rim(text: &mut String, first: u32, n: u32, act: &Act) -> Result<(), AllocError> {
     text.push_str("<path class=\"g\" d=\"")?;
     print_path(text, first, n, act)?;
     text.push_str("\"/>\n")

@@ -1,8 +1,5 @@
 ghost use Rattle.std.specs.Prelude.{◌≡◌, ◌++◌, string_bytes, OnOk};
-ghost use Rattle.draw_elements.specs.Items.{route_of, or_end, route_text, rim_down, path_open};
-ghost use Rattle.draw_elements.specs.Items.{item_rim, title_of, title_text, came_text, left_text};
-ghost use Rattle.draw_elements.specs.Items.{bar_text, cross_sign, sign_text, slant_text};
-ghost use Rattle.draw_elements.specs.Items.{group_text, item_text};
+ghost use Rattle.draw_elements.specs.Titles.{or_end, last_row_of, title_text, came_text, left_text};
 
 use crate::height::{Height, print_circle, row_middle};
 use crate::words::{faint, kind_class, kind_word};
@@ -27,7 +24,8 @@ pub struct DrawnRoute {
 impl DrawnRoute {
     /// That of an item, if `end` is the row behind the last event.
     pub fn of(columns: &Columns, end: u32, item: &Journey) -> DrawnRoute
-        ensures { result ≡ route_of columns.now end item.now }
+        ensures sent { result.sent ≡ item.now.sent }
+        ensures left { result.left ≡ last_row_of end item.now }
     {
         let from = columns.face(lane_back(item.lane));
         let came = or_end(item.came, end);
@@ -57,11 +55,7 @@ fn or_end(row: u32, end: u32) -> u32
     if row > 0 { row } else { end }
 }
 
-#[tactic(auto, unfolding(crate::specs::Items::route_text))]
-fn print_route(text: &mut String, first: u32, route: &DrawnRoute) -> Result<(), AllocError>
-    ensures { OnOk result (string_bytes text.new ≡ string_bytes text.old ++
-        route_text first route.now) }
-{
+fn print_route(text: &mut String, first: u32, route: &DrawnRoute) -> Result<(), AllocError> {
     write!(
         text,
         "M{} {}L{} {}",
@@ -78,68 +72,36 @@ pub fn print_item_rim(
     class: &str,
     first: u32,
     route: &DrawnRoute,
-) -> Result<(), AllocError>
-    ensures { OnOk result (string_bytes text.new
-        ≡ string_bytes text.old ++ item_rim class.now first route.now) }
-{
-    print_path_open(text, class)?;
+) -> Result<(), AllocError> {
+    write!(text, "<path class=\"{class}\" d=\"")?;
     print_route(text, first, route)?;
-    print_down(text, first, route)?;
+    if route.came < route.left {
+        write!(text, "V{}", row_middle(first, route.left))?;
+    }
     text.push_str("\"/>\n")
 }
 
-#[tactic(auto, unfolding(crate::specs::Items::path_open))]
-fn print_path_open(text: &mut String, class: &str) -> Result<(), AllocError>
-    ensures { OnOk result (string_bytes text.new ≡ string_bytes text.old ++ path_open class.now) }
-{
-    write!(text, "<path class=\"{class}\" d=\"")
+/// The begin of an item, before its title: pale if it belongs to a fruitless try.
+pub fn print_item_open(text: &mut String, item: Carried, pale: bool) -> Result<(), AllocError> {
+    write!(text, "<g class=\"{}{}\">", kind_class(item), faint(pale))
 }
 
-fn print_down(text: &mut String, first: u32, route: &DrawnRoute) -> Result<(), AllocError>
-    ensures { OnOk result (string_bytes text.new ≡ string_bytes text.old ++
-        rim_down first route.now) }
-{
-    if route.came < route.left {
-        write!(text, "V{}", row_middle(first, route.left))
-    } else {
-        Ok(())
-    }
-}
-
-/// An item, pale if it belongs to a fruitless try.
-pub fn print_item(
+/// What is drawn of an item, up to its end.
+pub fn print_item_way(
     text: &mut String,
-    board: &Board,
     first: u32,
-    pale: bool,
     item: &Journey,
     route: &DrawnRoute,
-) -> Result<(), AllocError>
-    ensures { OnOk result (string_bytes text.new ≡ string_bytes text.old ++
-        item_text board.now first pale item.now route.now) }
-{
-    print_group(text, item.carried, pale)?;
-    print_title_of(text, board, item)?;
+) -> Result<(), AllocError> {
     print_slant(text, first, route)?;
     print_bar(text, first, route)?;
     print_sign(text, first, item, route)?;
     text.push_str("</g>\n")
 }
 
-#[tactic(auto, unfolding(crate::specs::Items::title_of))]
-fn print_title_of(text: &mut String, board: &Board, item: &Journey) -> Result<(), AllocError>
-    ensures { OnOk result (string_bytes text.new ≡ string_bytes text.old ++
-        title_of board.now item.now.carried item.now) }
-{
-    match item.carried {
-        Carried::Post { .. } | Carried::Ask { .. } | Carried::Done { .. } | Carried::Gone { .. } =>
-            { print_title(text, board, item) }
-        Carried::Room => Ok(()),
-    }
-}
-
-#[tactic(auto, unfolding(crate::specs::Items::title_text))]
-fn print_title(text: &mut String, board: &Board, item: &Journey) -> Result<(), AllocError>
+/// The title of an item: what it is, its operation and its lane, and its events.
+#[tactic(auto, unfolding(crate::specs::Titles::title_text))]
+pub fn print_title(text: &mut String, board: &Board, item: &Journey) -> Result<(), AllocError>
     ensures { OnOk result (string_bytes text.new ≡ string_bytes text.old ++
         title_text board.now item.now) }
 {
@@ -171,11 +133,7 @@ fn print_left(text: &mut String, item: &Journey) -> Result<(), AllocError>
     }
 }
 
-#[tactic(auto, unfolding(crate::specs::Items::bar_text))]
-fn print_bar(text: &mut String, first: u32, route: &DrawnRoute) -> Result<(), AllocError>
-    ensures { OnOk result (string_bytes text.new ≡ string_bytes text.old ++
-        bar_text first route.now) }
-{
+fn print_bar(text: &mut String, first: u32, route: &DrawnRoute) -> Result<(), AllocError> {
     if route.came < route.left {
         write!(
             text,
@@ -189,34 +147,19 @@ fn print_bar(text: &mut String, first: u32, route: &DrawnRoute) -> Result<(), Al
     }
 }
 
-#[tactic(auto, unfolding(crate::specs::Items::group_text))]
-fn print_group(text: &mut String, item: Carried, pale: bool) -> Result<(), AllocError>
-    ensures { OnOk result (string_bytes text.new ≡ string_bytes text.old ++ group_text item pale) }
-{
-    write!(text, "<g class=\"{}{}\">", kind_class(item), faint(pale))
-}
-
-#[tactic(auto, unfolding(crate::specs::Items::slant_text))]
-fn print_slant(text: &mut String, first: u32, route: &DrawnRoute) -> Result<(), AllocError>
-    ensures { OnOk result (string_bytes text.new ≡ string_bytes text.old ++
-        slant_text first route.now) }
-{
+fn print_slant(text: &mut String, first: u32, route: &DrawnRoute) -> Result<(), AllocError> {
     text.push_str("<path d=\"")?;
     print_route(text, first, route)?;
     text.push_str("\"/>")
 }
 
 /// What stands where the item arrived.
-#[tactic(auto, unfolding(crate::specs::Items::sign_text))]
 fn print_sign(
     text: &mut String,
     first: u32,
     item: &Journey,
     route: &DrawnRoute,
-) -> Result<(), AllocError>
-    ensures { OnOk result (string_bytes text.new ≡ string_bytes text.old ++
-        sign_text first item.now route.now) }
-{
+) -> Result<(), AllocError> {
     if item.marked {
         print_cross_sign(text, first, route)
     } else if item.has_stood() {
@@ -226,11 +169,7 @@ fn print_sign(
     }
 }
 
-#[tactic(auto, unfolding(crate::specs::Items::cross_sign))]
-fn print_cross_sign(text: &mut String, first: u32, route: &DrawnRoute) -> Result<(), AllocError>
-    ensures { OnOk result (string_bytes text.new ≡ string_bytes text.old ++
-        cross_sign first route.now) }
-{
+fn print_cross_sign(text: &mut String, first: u32, route: &DrawnRoute) -> Result<(), AllocError> {
     let y = Height {
         first,
         row: route.came,

@@ -1,13 +1,3 @@
-ghost use Rattle.std.specs.Prelude.{◌≡◌, ◌++◌, [], string_bytes, OnOk};
-ghost use Rattle.board_printer.specs.Lines.{spaced};
-ghost use Rattle.trace_text.specs.Words.{place_words};
-ghost use Rattle.trace_text.specs.Events.{result_words, mark_words, act_line, arrival_line};
-ghost use Rattle.board_model.specs.Requests.{request_of};
-ghost use Rattle.draw_elements.specs.Labels.{words_text, event_text, item_note, arrival_note};
-ghost use Rattle.draw_elements.specs.Labels.{note_of};
-ghost use Rattle.draw_elements.specs.Labels.{space_note, phases_note, data_note, request_note};
-ghost use Rattle.draw_elements.specs.Labels.{reaches, enters, is_new, tells_request, act_note};
-
 use crate::acts::ActLine;
 use crate::words::kind_word;
 use board_model::{Board, Lane, Place, end_of, request_of};
@@ -19,10 +9,7 @@ use std::alloc::AllocError;
 use trace_text::{ByWord, LaneWord, print_operation, step_word, target_name};
 
 /// The line of the event, without its newline.
-pub fn print_event(text: &mut String, board: &Board, event: &Event) -> Result<(), AllocError>
-    ensures { OnOk result (string_bytes text.new ≡ string_bytes text.old ++
-        event_text board.now event.now) }
-{
+pub fn print_event(text: &mut String, board: &Board, event: &Event) -> Result<(), AllocError> {
     match *event {
         Event::Act {
             bus,
@@ -44,10 +31,7 @@ pub fn print_event(text: &mut String, board: &Board, event: &Event) -> Result<()
     }
 }
 
-fn print_act_line(text: &mut String, board: &Board, line: ActLine) -> Result<(), AllocError>
-    ensures { OnOk result (string_bytes text.new ≡ string_bytes text.old ++
-        words_text (act_line board.now line.bus line.by line.op line.step line.place)) }
-{
+fn print_act_line(text: &mut String, board: &Board, line: ActLine) -> Result<(), AllocError> {
     let by = ByWord(line.by);
     write!(text, "{} {} {by} ", line.bus, step_word(line.step))?;
     print_operation(text, board, &line.op)?;
@@ -55,18 +39,17 @@ fn print_act_line(text: &mut String, board: &Board, line: ActLine) -> Result<(),
     print_result(text, line.step)
 }
 
-fn print_arrival(text: &mut String, board: &Board, lane: Lane, mark: Mark) -> Result<(), AllocError>
-    ensures { OnOk result (string_bytes text.new ≡ string_bytes text.old ++
-        words_text (arrival_line board.now lane mark)) }
-{
+fn print_arrival(
+    text: &mut String,
+    board: &Board,
+    lane: Lane,
+    mark: Mark,
+) -> Result<(), AllocError> {
     write!(text, "{} arrive {}", end_of(board, lane), LaneWord(lane))?;
     print_mark(text, mark)
 }
 
-fn print_place(text: &mut String, board: &Board, place: Place) -> Result<(), AllocError>
-    ensures { OnOk result (string_bytes text.new ≡ string_bytes text.old ++
-        spaced (place_words board.now place) []) }
-{
+fn print_place(text: &mut String, board: &Board, place: Place) -> Result<(), AllocError> {
     match place {
         Place::Target(index) => write!(text, " {}", target_name(board, index)),
         Place::Header(bus) => write!(text, " ={bus}"),
@@ -75,10 +58,7 @@ fn print_place(text: &mut String, board: &Board, place: Place) -> Result<(), All
     }
 }
 
-fn print_result(text: &mut String, step: Step) -> Result<(), AllocError>
-    ensures { OnOk result (string_bytes text.new ≡ string_bytes text.old ++
-        spaced (result_words step) []) }
-{
+fn print_result(text: &mut String, step: Step) -> Result<(), AllocError> {
     match step {
         Step::Part(phases) => write!(text, " {phases}"),
         Step::Read(value) => write!(text, " {}", HexWord(value)),
@@ -97,10 +77,7 @@ fn print_result(text: &mut String, step: Step) -> Result<(), AllocError>
     }
 }
 
-fn print_mark(text: &mut String, mark: Mark) -> Result<(), AllocError>
-    ensures { OnOk result (string_bytes text.new ≡ string_bytes text.old ++
-        spaced (mark_words mark) []) }
-{
+fn print_mark(text: &mut String, mark: Mark) -> Result<(), AllocError> {
     match mark {
         Mark::Plain => Ok(()),
         Mark::Discard => text.push_str(" discard"),
@@ -114,10 +91,7 @@ pub fn print_note(
     board: &Board,
     item: Option<Journey>,
     event: &Event,
-) -> Result<(), AllocError>
-    ensures { OnOk result (string_bytes text.new ≡ string_bytes text.old ++
-        note_of board.now item event.now) }
-{
+) -> Result<(), AllocError> {
     match *event {
         Event::Act {
             bus,
@@ -136,10 +110,11 @@ pub fn print_note(
     }
 }
 
-fn print_arriving(text: &mut String, board: &Board, item: Option<Journey>) -> Result<(), AllocError>
-    ensures { OnOk result (string_bytes text.new ≡ string_bytes text.old ++
-        arrival_note board.now item) }
-{
+fn print_arriving(
+    text: &mut String,
+    board: &Board,
+    item: Option<Journey>,
+) -> Result<(), AllocError> {
     match item {
         Some(item) => print_item_note(text, board, item.carried, item.op),
         None => Ok(()),
@@ -151,10 +126,7 @@ fn print_item_note(
     board: &Board,
     item: Carried,
     op: OpId,
-) -> Result<(), AllocError>
-    ensures { OnOk result (string_bytes text.new ≡ string_bytes text.old ++
-        item_note board.now item op) }
-{
+) -> Result<(), AllocError> {
     match item {
         Carried::Post { .. } | Carried::Ask { .. } | Carried::Done { .. } | Carried::Gone { .. } =>
             {
@@ -167,9 +139,7 @@ fn print_item_note(
 
 /// Whether the act has a note of its request: a landing or a read at a target, and what a bridge
 /// accepts or latches of a master.
-fn tells_request(by: By, step: Step, place: Place) -> bool
-    ensures { result ≡ tells_request by step place }
-{
+fn tells_request(by: By, step: Step, place: Place) -> bool {
     match place {
         Place::Target(_) => reaches(step),
         Place::Lane(_) => is_new(by, step),
@@ -177,31 +147,22 @@ fn tells_request(by: By, step: Step, place: Place) -> bool
     }
 }
 
-fn reaches(step: Step) -> bool
-    ensures { result ≡ reaches step }
-{
+fn reaches(step: Step) -> bool {
     matches!(step, Step::Land | Step::Part(_) | Step::Read(_))
 }
 
-fn is_new(by: By, step: Step) -> bool
-    ensures { result ≡ is_new by step }
-{
+fn is_new(by: By, step: Step) -> bool {
     match by {
         By::Master => enters(step),
         By::Lane(_) => false,
     }
 }
 
-fn enters(step: Step) -> bool
-    ensures { result ≡ enters step }
-{
+fn enters(step: Step) -> bool {
     matches!(step, Step::Accept | Step::Latch)
 }
 
-fn print_request_of(text: &mut String, board: &Board, bus: u8, op: OpId) -> Result<(), AllocError>
-    ensures { OnOk result (string_bytes text.new ≡ string_bytes text.old ++
-        request_note (request_of board.now op bus)) }
-{
+fn print_request_of(text: &mut String, board: &Board, bus: u8, op: OpId) -> Result<(), AllocError> {
     match request_of(board, op, bus) {
         Some(request) => {
             print_data(text, &request)?;
@@ -213,9 +174,7 @@ fn print_request_of(text: &mut String, board: &Board, bus: u8, op: OpId) -> Resu
 }
 
 /// Of a write the first word.
-fn print_data(text: &mut String, request: &Request) -> Result<(), AllocError>
-    ensures { OnOk result (string_bytes text.new ≡ string_bytes text.old ++ data_note request.now) }
-{
+fn print_data(text: &mut String, request: &Request) -> Result<(), AllocError> {
     if request.command.is_read() {
         Ok(())
     } else {
@@ -223,10 +182,7 @@ fn print_data(text: &mut String, request: &Request) -> Result<(), AllocError>
     }
 }
 
-fn print_address(text: &mut String, space: Space, address: u64) -> Result<(), AllocError>
-    ensures { OnOk result (string_bytes text.new ≡ string_bytes text.old ++
-        space_note space address) }
-{
+fn print_address(text: &mut String, space: Space, address: u64) -> Result<(), AllocError> {
     match space {
         Space::Mem => write!(text, "{}", Address(address)),
         Space::Io => write!(text, "io {}", Address(address)),
@@ -234,10 +190,7 @@ fn print_address(text: &mut String, space: Space, address: u64) -> Result<(), Al
     }
 }
 
-fn print_phases(text: &mut String, phases: &[Phase]) -> Result<(), AllocError>
-    ensures { OnOk result (string_bytes text.new ≡ string_bytes text.old ++
-        phases_note phases.now) }
-{
+fn print_phases(text: &mut String, phases: &[Phase]) -> Result<(), AllocError> {
     match phases {
         [] => Ok(()),
         [phase] => write!(text, "{} ", DataWord(*phase)),

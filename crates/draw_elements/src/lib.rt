@@ -11,7 +11,7 @@ mod words;
 
 pub use acts::{Act, ActLine, ActRow, print_act, print_act_rim, print_head};
 pub use height::{Height, print_circle, row_middle};
-pub use items::{DrawnRoute, print_item, print_item_rim};
+pub use items::{DrawnRoute, print_item_open, print_item_rim, print_item_way, print_title};
 pub use labels::{print_event, print_note};
 pub use refused::{print_refused, refused_place};
 pub use words::faint;

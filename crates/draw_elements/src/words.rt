@@ -1,6 +1,5 @@
 ghost use Rattle.std.specs.Prelude.{◌≡◌};
-ghost use Rattle.draw_elements.specs.Labels.{kind_word};
-ghost use Rattle.draw_elements.specs.Items.{kind_class, faint};
+ghost use Rattle.draw_elements.specs.Titles.{kind_word};
 
 use history_model::Carried;
 
@@ -18,9 +17,7 @@ pub fn kind_word(item: Carried) -> &'static str
 }
 
 /// The class of an item.
-pub fn kind_class(item: Carried) -> &'static str
-    ensures { result.now ≡ kind_class item }
-{
+pub fn kind_class(item: Carried) -> &'static str {
     match item {
         Carried::Post { .. } => "p",
         Carried::Ask { .. } => "a",
@@ -31,8 +28,6 @@ pub fn kind_class(item: Carried) -> &'static str
 }
 
 /// What stands behind the class of a fruitless try.
-pub fn faint(pale: bool) -> &'static str
-    ensures { result.now ≡ faint pale }
-{
+pub fn faint(pale: bool) -> &'static str {
     if pale { " f" } else { "" }
 }

@@ -4,4 +4,3 @@ pub mod Tries
 pub mod Waits
 pub mod Kept
 pub mod columns
-pub mod style

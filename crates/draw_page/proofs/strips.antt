@@ -1,3 +1,2 @@
-pub mod StripLemmas
 pub mod TestLemmas
 pub mod DrawLemmas

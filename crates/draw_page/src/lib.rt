@@ -6,4 +6,4 @@ mod layers;
 mod page;
 pub mod strips;
 
-pub use page::page_of;
+pub use page::drawn_page;

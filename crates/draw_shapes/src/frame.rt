@@ -1,7 +1,4 @@
-ghost use Rattle.std.specs.Prelude.{◌≡◌, ◌+◌, ◌<◌, ◌^◌, length, IfOk};
-ghost use Rattle.std.specs.Fmt.{decimal};
-ghost use Rattle.list_facts.specs.Lists.{greatest};
-ghost use Rattle.draw_shapes.specs.Frames.{row_width, number_x, frame_of};
+ghost use Rattle.std.specs.Prelude.{◌≡◌, ◌+◌, ◌<◌, ◌^◌, IfOk};
 
 use crate::row::Row;
 use draw_items::{product, sum};
@@ -25,7 +22,6 @@ pub struct Frame {
 }
 
 /// Of so many events those from number `first` to number `last` are drawn, in these rows.
-#[tactic(auto, unfolding(crate::specs::Frames::frame_of))]
 pub fn frame_of(
     alloc: Global,
     count: u32,
@@ -34,7 +30,9 @@ pub fn frame_of(
     rows: &[Row],
 ) -> Result<Frame, NoMemory>
     requires { count + 1 < 2 ^ 32 }
-    ensures { IfOk result (λ frame. frame ≡ frame_of count first last rows.now) }
+    ensures first { IfOk result (λ frame. frame.first ≡ first) }
+    ensures last { IfOk result (λ frame. frame.last ≡ last) }
+    ensures end { IfOk result (λ frame. frame.end ≡ count + 1) }
 {
     let number_x = number_x(alloc, count)?;
     let text_x = sum(number_x, 10);
@@ -49,24 +47,18 @@ pub fn frame_of(
     })
 }
 
-fn number_x(alloc: Global, count: u32) -> Result<u64, AllocError>
-    ensures { IfOk result (λ x. x ≡ number_x count) }
-{
+fn number_x(alloc: Global, count: u32) -> Result<u64, AllocError> {
     let digits = digits_of(alloc, count)?;
     Ok(sum(8, product(6, digits as u64)))
 }
 
-fn digits_of(alloc: Global, number: u32) -> Result<usize, AllocError>
-    ensures { IfOk result (λ digits. digits ≡ length (decimal number)) }
-{
+fn digits_of(alloc: Global, number: u32) -> Result<usize, AllocError> {
     let text = format!(in alloc; "{number}")?;
     Ok(text.len())
 }
 
 /// The greatest width of a row.
-fn widest(rows: &[Row]) -> u64
-    ensures { result ≡ greatest row_width rows.now }
-{
+fn widest(rows: &[Row]) -> u64 {
     let mut wide = 0;
     for row in rows {
         wide = row.width.max(wide);

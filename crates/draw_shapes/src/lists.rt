@@ -1,8 +1,3 @@
-ghost use Rattle.std.specs.Prelude.{◌≡◌, ◌++◌, string_bytes, OnOk};
-ghost use Rattle.draw_elements.specs.Labels.{note_of};
-ghost use Rattle.draw_shapes.specs.Lists.{is_credit, brings_credit, is_credit_event, row_class};
-ghost use Rattle.draw_shapes.specs.Lists.{number_text, line_open, noted, row_text};
-
 use crate::frame::Frame;
 use crate::row::Row;
 use board_model::Board;
@@ -12,17 +7,13 @@ use history_model::{Carried, Event};
 use std::alloc::{AllocError, Global};
 
 /// An event in the list: its number, its line and what is noted behind it.
-#[tactic(auto, unfolding(crate::specs::Lists::row_text))]
 pub(crate) fn print_row(
     alloc: Global,
     text: &mut String,
     board: &Board,
     frame: &Frame,
     row: &Row,
-) -> Result<(), AllocError>
-    ensures { OnOk result (string_bytes text.new ≡ string_bytes text.old ++
-        row_text board.now frame.now row.now) }
-{
+) -> Result<(), AllocError> {
     print_number(text, frame.first, row.n, frame.number_x)?;
     print_line_open(text, frame.first, row.n, frame.text_x, row_class(row))?;
     print_event(text, board, &row.event)?;
@@ -30,9 +21,7 @@ pub(crate) fn print_row(
     text.push_str("</text>\n")
 }
 
-fn foot(first: u32, row: u32) -> Height
-    ensures { result ≡ record { first = first; row = row; down = 12 } }
-{
+fn foot(first: u32, row: u32) -> Height {
     Height {
         first,
         row,
@@ -40,10 +29,7 @@ fn foot(first: u32, row: u32) -> Height
     }
 }
 
-#[tactic(auto, unfolding(crate::specs::Lists::number_text))]
-fn print_number(text: &mut String, first: u32, n: u32, x: u64) -> Result<(), AllocError>
-    ensures { OnOk result (string_bytes text.new ≡ string_bytes text.old ++ number_text first n x) }
-{
+fn print_number(text: &mut String, first: u32, n: u32, x: u64) -> Result<(), AllocError> {
     write!(
         text,
         "<text id=\"e{n}\" class=\"n\" x=\"{x}\" y=\"{}\">{n}</text>",
@@ -51,26 +37,23 @@ fn print_number(text: &mut String, first: u32, n: u32, x: u64) -> Result<(), All
     )
 }
 
-#[tactic(auto, unfolding(crate::specs::Lists::line_open))]
 fn print_line_open(
     text: &mut String,
     first: u32,
     n: u32,
     x: u64,
     class: &str,
-) -> Result<(), AllocError>
-    ensures { OnOk result (string_bytes text.new ≡ string_bytes text.old ++
-        line_open first n x class.now) }
-{
+) -> Result<(), AllocError> {
     write!(text, "<text{class} x=\"{x}\" y=\"{}\">", foot(first, n))
 }
 
 /// What is noted behind the line, where there is anything.
-#[tactic(auto, unfolding(crate::specs::Lists::noted))]
-fn print_noted(alloc: Global, text: &mut String, board: &Board, row: &Row) -> Result<(), AllocError>
-    ensures { OnOk result (string_bytes text.new ≡ string_bytes text.old ++
-        noted (note_of board.now row.now.item row.now.event)) }
-{
+fn print_noted(
+    alloc: Global,
+    text: &mut String,
+    board: &Board,
+    row: &Row,
+) -> Result<(), AllocError> {
     let mut note = String::new(alloc);
     print_note(&mut note, board, row.item, &row.event)?;
     if note.len() == 0 {
@@ -81,9 +64,7 @@ fn print_noted(alloc: Global, text: &mut String, board: &Board, row: &Row) -> Re
 }
 
 /// Bold for a key, else grey for a fruitless try and where a credit arrives.
-fn row_class(row: &Row) -> &'static str
-    ensures { result.now ≡ row_class row.now }
-{
+fn row_class(row: &Row) -> &'static str {
     if row.key {
         " class=\"h\""
     } else if row.pale || is_credit_event(row.item, &row.event) {
@@ -93,26 +74,20 @@ fn row_class(row: &Row) -> &'static str
     }
 }
 
-fn is_credit_event(item: Option<Journey>, event: &Event) -> bool
-    ensures { result ≡ is_credit_event item event.now }
-{
+fn is_credit_event(item: Option<Journey>, event: &Event) -> bool {
     match event {
         Event::Act { .. } => false,
         Event::Arrive { .. } => brings_credit(item),
     }
 }
 
-fn brings_credit(item: Option<Journey>) -> bool
-    ensures { result ≡ brings_credit item }
-{
+fn brings_credit(item: Option<Journey>) -> bool {
     match item {
         Some(item) => is_credit(item.carried),
         None => false,
     }
 }
 
-fn is_credit(item: Carried) -> bool
-    ensures { result ≡ is_credit item }
-{
+fn is_credit(item: Carried) -> bool {
     matches!(item, Carried::Room)
 }

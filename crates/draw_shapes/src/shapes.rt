@@ -1,20 +1,16 @@
-ghost use Rattle.std.specs.Prelude.{◌≡◌, ◌++◌, min, OnOk};
-ghost use Rattle.draw_shapes.specs.Elements.{is_claimed, dotted_to, dotted_shapes, mark_shapes};
-ghost use Rattle.draw_shapes.specs.Elements.{refused_marks, key_shapes, can_have_rim, route_rim};
-ghost use Rattle.draw_shapes.specs.Elements.{item_rims, rim_in, act_rims_of, act_rims, ahead_class};
-ghost use Rattle.draw_shapes.specs.Elements.{ahead_rims, wait_shapes, routed, item_shapes};
-ghost use Rattle.draw_shapes.specs.Elements.{act_shapes_of, cross_at, refused_shapes, act_shapes};
-ghost use Rattle.draw_shapes.specs.Elements.{bracket_on, bracket_shapes, list_shapes};
+ghost use Rattle.std.specs.Prelude.{◌≡◌, ◌∷◌, [], ◌++◌, OnOk};
+ghost use Rattle.draw_elements.specs.Titles.{title_text};
+ghost use Rattle.draw_shapes.specs.Shapes.{captions_in, item_captions, captions_from, has_title};
 
 use crate::canvas::Canvas;
-use crate::element::{Element, add_between, add_in_row, is_seen};
+use crate::element::{Element, add_between, add_in_row, add_titled, is_seen};
 use crate::frame::Frame;
 use crate::keys::{BracketWay, print_bracket, print_dotted, print_mark, print_wait};
 use crate::lists::print_row;
 use crate::row::Row;
 use draw_elements::{
-    Act, ActLine, ActRow, DrawnRoute, print_act, print_act_rim, print_item, print_item_rim,
-    print_refused, refused_place,
+    Act, ActLine, ActRow, DrawnRoute, print_act, print_act_rim, print_item_open, print_item_rim,
+    print_item_way, print_refused, print_title, refused_place,
 };
 use draw_items::{Journey, Wait, product, sum};
 use history_model::{Carried, Event, Step};
@@ -25,15 +21,13 @@ use std::alloc::Global;
 const AHEAD: &str = "z\" fill-opacity=\"0";
 
 /// The mark of a key, and its dotted line; or that of an event that is not allowed.
-#[tactic(auto, unfolding(crate::specs::Elements::key_shapes))]
 pub fn add_key(
     alloc: Global,
     elements: &mut Vec<Element>,
     canvas: &Canvas,
     row: &Row,
 ) -> Result<(), NoMemory>
-    ensures { OnOk result (elements.new.items ≡ elements.old.items ++
-        key_shapes canvas.now.columns.now canvas.now.frame.now row.now) }
+    ensures { OnOk result (captions_in elements.new.items ≡ captions_in elements.old.items) }
 {
     if row.key {
         add_mark(alloc, elements, "o", canvas.frame, row)?;
@@ -49,8 +43,7 @@ fn add_refused_mark(
     frame: &Frame,
     row: &Row,
 ) -> Result<(), NoMemory>
-    ensures { OnOk result (elements.new.items ≡ elements.old.items ++
-        refused_marks frame.now row.now) }
+    ensures { OnOk result (captions_in elements.new.items ≡ captions_in elements.old.items) }
 {
     if row.refused {
         add_mark(alloc, elements, "z", frame, row)
@@ -66,14 +59,13 @@ fn add_mark(
     frame: &Frame,
     row: &Row,
 ) -> Result<(), NoMemory>
-    ensures { OnOk result (elements.new.items ≡ elements.old.items ++
-        mark_shapes class.now frame.now row.now) }
+    ensures { OnOk result (captions_in elements.new.items ≡ captions_in elements.old.items) }
 {
     let mut text = String::new(alloc);
     let x = frame.text_x.saturating_sub(4);
     let size = sum(row.width, 8);
     print_mark(&mut text, class, frame.first, row.n, x, size)?;
-    add_in_row(elements, row.n, text)
+    add_in_row(alloc, elements, row.n, text)
 }
 
 fn add_dotted_of(
@@ -83,8 +75,7 @@ fn add_dotted_of(
     row: &Row,
     event: &Event,
 ) -> Result<(), NoMemory>
-    ensures { OnOk result (elements.new.items ≡ elements.old.items ++
-        dotted_shapes canvas.now.columns.now canvas.now.frame.now row.now event.now) }
+    ensures { OnOk result (captions_in elements.new.items ≡ captions_in elements.old.items) }
 {
     match *event {
         Event::Act {
@@ -116,24 +107,20 @@ fn add_dotted(
     n: u32,
     act: &Act,
 ) -> Result<(), NoMemory>
-    ensures { OnOk result (elements.new.items ≡ elements.old.items ++
-        dotted_to frame.now n act.now) }
+    ensures { OnOk result (captions_in elements.new.items ≡ captions_in elements.old.items) }
 {
     let mut text = String::new(alloc);
     let nearer = act.begin.min(act.end);
     print_dotted(&mut text, frame.first, n, frame.told_x, nearer)?;
-    add_in_row(elements, n, text)
+    add_in_row(alloc, elements, n, text)
 }
 
 /// Whether somebody claims it.
-fn is_claimed(step: Step) -> bool
-    ensures { result ≡ is_claimed step }
-{
+fn is_claimed(step: Step) -> bool {
     !matches!(step, Step::MasterAbort)
 }
 
 /// The rim of an item whose operation is in the chain of a line.
-#[tactic(auto, unfolding(crate::specs::Elements::item_rims))]
 pub fn add_item_rim(
     alloc: Global,
     elements: &mut Vec<Element>,
@@ -141,8 +128,7 @@ pub fn add_item_rim(
     loud: bool,
     item: &Journey,
 ) -> Result<(), NoMemory>
-    ensures { OnOk result (elements.new.items ≡ elements.old.items ++
-        item_rims canvas.now.columns.now canvas.now.frame.now loud item.now) }
+    ensures { OnOk result (captions_in elements.new.items ≡ captions_in elements.old.items) }
 {
     if can_have_rim(item.carried) && loud {
         let route = DrawnRoute::of(canvas.columns, canvas.frame.end, item);
@@ -159,34 +145,29 @@ fn add_route_rim(
     frame: &Frame,
     route: &DrawnRoute,
 ) -> Result<(), NoMemory>
-    ensures { OnOk result (elements.new.items
-        ≡ elements.old.items ++ route_rim class.now frame.now route.now) }
+    ensures { OnOk result (captions_in elements.new.items ≡ captions_in elements.old.items) }
 {
     if is_seen(frame, route.sent, route.left) {
         let mut text = String::new(alloc);
         print_item_rim(&mut text, class, frame.first, route)?;
-        add_between(elements, route.sent, route.left, text)
+        add_between(alloc, elements, route.sent, route.left, text)
     } else {
         Ok(())
     }
 }
 
-fn can_have_rim(item: Carried) -> bool
-    ensures { result ≡ can_have_rim item }
-{
+fn can_have_rim(item: Carried) -> bool {
     !matches!(item, Carried::Room | Carried::Gone { .. })
 }
 
 /// The rim of an act whose operation is in the chain of a line.
-#[tactic(auto, unfolding(crate::specs::Elements::act_rims))]
 pub fn add_act_rim(
     alloc: Global,
     elements: &mut Vec<Element>,
     canvas: &Canvas,
     row: &Row,
 ) -> Result<(), NoMemory>
-    ensures { OnOk result (elements.new.items ≡ elements.old.items ++
-        act_rims canvas.now.columns.now canvas.now.frame.now row.now) }
+    ensures { OnOk result (captions_in elements.new.items ≡ captions_in elements.old.items) }
 {
     add_act_rim_of(alloc, elements, canvas, row, &row.event)
 }
@@ -198,8 +179,7 @@ fn add_act_rim_of(
     row: &Row,
     event: &Event,
 ) -> Result<(), NoMemory>
-    ensures { OnOk result (elements.new.items ≡ elements.old.items ++
-        act_rims_of canvas.now.columns.now canvas.now.frame.now row.now event.now) }
+    ensures { OnOk result (captions_in elements.new.items ≡ captions_in elements.old.items) }
 {
     match *event {
         Event::Act {
@@ -230,23 +210,21 @@ fn add_rim(
     n: u32,
     act: &Act,
 ) -> Result<(), NoMemory>
-    ensures { OnOk result (elements.new.items ≡ elements.old.items ++ rim_in frame.now n act.now) }
+    ensures { OnOk result (captions_in elements.new.items ≡ captions_in elements.old.items) }
 {
     let mut text = String::new(alloc);
     print_act_rim(&mut text, frame.first, n, act)?;
-    add_in_row(elements, n, text)
+    add_in_row(alloc, elements, n, text)
 }
 
 /// The rim of what an event that is not allowed stands behind.
-#[tactic(auto, unfolding(crate::specs::Elements::ahead_rims))]
 pub fn add_ahead_rim(
     alloc: Global,
     elements: &mut Vec<Element>,
     canvas: &Canvas,
     item: Option<Journey>,
 ) -> Result<(), NoMemory>
-    ensures { OnOk result (elements.new.items ≡ elements.old.items ++
-        ahead_rims canvas.now.columns.now canvas.now.frame.now item) }
+    ensures { OnOk result (captions_in elements.new.items ≡ captions_in elements.old.items) }
 {
     match item {
         Some(item) => {
@@ -258,7 +236,6 @@ pub fn add_ahead_rim(
 }
 
 /// The bar of a master that waits.
-#[tactic(auto, unfolding(crate::specs::Elements::wait_shapes))]
 pub fn add_wait(
     alloc: Global,
     elements: &mut Vec<Element>,
@@ -266,21 +243,20 @@ pub fn add_wait(
     pale: bool,
     wait: &Wait,
 ) -> Result<(), NoMemory>
-    ensures { OnOk result (elements.new.items ≡ elements.old.items ++
-        wait_shapes canvas.now.columns.now canvas.now.frame.now pale wait.now) }
+    ensures { OnOk result (captions_in elements.new.items ≡ captions_in elements.old.items) }
 {
     if wait.first < wait.last && is_seen(canvas.frame, wait.first, wait.last) {
         let mut text = String::new(alloc);
         let x = canvas.columns.master(wait.op.master);
         print_wait(&mut text, canvas.frame.first, x, pale, wait)?;
-        add_between(elements, wait.first, wait.last, text)
+        add_between(alloc, elements, wait.first, wait.last, text)
     } else {
         Ok(())
     }
 }
 
-/// An item.
-#[tactic(auto, unfolding(crate::specs::Elements::item_shapes))]
+/// An item, with its title, if it has one.
+#[tactic(auto, unfolding(crate::specs::Shapes::item_captions))]
 pub fn add_item(
     alloc: Global,
     elements: &mut Vec<Element>,
@@ -288,14 +264,15 @@ pub fn add_item(
     pale: bool,
     item: &Journey,
 ) -> Result<(), NoMemory>
-    ensures { OnOk result (elements.new.items ≡ elements.old.items ++
-        item_shapes canvas.now.board.now canvas.now.columns.now canvas.now.frame.now
-        pale item.now) }
+    ensures { OnOk result (captions_in elements.new.items ≡ captions_in elements.old.items ++
+        item_captions canvas.now.board.now canvas.now.frame.now.end canvas.now.frame.now.first
+        canvas.now.frame.now.last item.now) }
 {
     let route = DrawnRoute::of(canvas.columns, canvas.frame.end, item);
     add_routed(alloc, elements, canvas, pale, item, &route)
 }
 
+#[tactic(auto, using(crate::proofs::ShapeLemmas::no_captions))]
 fn add_routed(
     alloc: Global,
     elements: &mut Vec<Element>,
@@ -304,29 +281,75 @@ fn add_routed(
     item: &Journey,
     route: &DrawnRoute,
 ) -> Result<(), NoMemory>
-    ensures { OnOk result (elements.new.items ≡ elements.old.items ++
-        routed canvas.now.board.now canvas.now.frame.now pale item.now route.now) }
+    ensures { OnOk result (captions_in elements.new.items ≡ captions_in elements.old.items ++
+        captions_from canvas.now.board.now canvas.now.frame.now.first canvas.now.frame.now.last
+        item.now route.now.sent route.now.left) }
 {
     if is_seen(canvas.frame, route.sent, route.left) {
-        let mut text = String::new(alloc);
-        let first = canvas.frame.first;
-        print_item(&mut text, canvas.board, first, pale, item, route)?;
-        add_between(elements, route.sent, route.left, text)
+        if has_title(item.carried) {
+            add_with_title(alloc, elements, canvas, pale, item, route)
+        } else {
+            add_credit(alloc, elements, canvas, pale, item, route)
+        }
     } else {
         Ok(())
     }
 }
 
+fn has_title(item: Carried) -> bool
+    ensures { result ≡ has_title item }
+{
+    !matches!(item, Carried::Room)
+}
+
+fn add_with_title(
+    alloc: Global,
+    elements: &mut Vec<Element>,
+    canvas: &Canvas,
+    pale: bool,
+    item: &Journey,
+    route: &DrawnRoute,
+) -> Result<(), NoMemory>
+    ensures { OnOk result (captions_in elements.new.items ≡ captions_in elements.old.items ++
+        record {
+          from = route.now.sent;
+          to = route.now.left;
+          title = title_text canvas.now.board.now item.now;
+        } ∷ []) }
+{
+    let mut text = String::new(alloc);
+    print_item_open(&mut text, item.carried, pale)?;
+    let mut title = String::new(alloc);
+    print_title(&mut title, canvas.board, item)?;
+    let mut behind = String::new(alloc);
+    print_item_way(&mut behind, canvas.frame.first, item, route)?;
+    add_titled(elements, route.sent, route.left, text, title, behind)
+}
+
+fn add_credit(
+    alloc: Global,
+    elements: &mut Vec<Element>,
+    canvas: &Canvas,
+    pale: bool,
+    item: &Journey,
+    route: &DrawnRoute,
+) -> Result<(), NoMemory>
+    ensures { OnOk result (captions_in elements.new.items ≡ captions_in elements.old.items) }
+{
+    let mut text = String::new(alloc);
+    print_item_open(&mut text, item.carried, pale)?;
+    print_item_way(&mut text, canvas.frame.first, item, route)?;
+    add_between(alloc, elements, route.sent, route.left, text)
+}
+
 /// An act; of an event that is not allowed a cross.
-#[tactic(auto, unfolding(crate::specs::Elements::act_shapes))]
 pub fn add_act(
     alloc: Global,
     elements: &mut Vec<Element>,
     canvas: &Canvas,
     row: &Row,
 ) -> Result<(), NoMemory>
-    ensures { OnOk result (elements.new.items ≡ elements.old.items ++
-        act_shapes canvas.now.board.now canvas.now.columns.now canvas.now.frame.now row.now) }
+    ensures { OnOk result (captions_in elements.new.items ≡ captions_in elements.old.items) }
 {
     if row.refused {
         add_refused(alloc, elements, canvas, row)
@@ -341,8 +364,7 @@ fn add_refused(
     canvas: &Canvas,
     row: &Row,
 ) -> Result<(), NoMemory>
-    ensures { OnOk result (elements.new.items ≡ elements.old.items ++
-        refused_shapes canvas.now.columns.now canvas.now.frame.now row.now) }
+    ensures { OnOk result (captions_in elements.new.items ≡ captions_in elements.old.items) }
 {
     let x = refused_place(canvas.columns, row.item, &row.event);
     add_cross(alloc, elements, canvas.frame, row.n, x)
@@ -355,11 +377,11 @@ fn add_cross(
     n: u32,
     x: u64,
 ) -> Result<(), NoMemory>
-    ensures { OnOk result (elements.new.items ≡ elements.old.items ++ cross_at frame.now n x) }
+    ensures { OnOk result (captions_in elements.new.items ≡ captions_in elements.old.items) }
 {
     let mut text = String::new(alloc);
     print_refused(&mut text, frame.first, n, x)?;
-    add_in_row(elements, n, text)
+    add_in_row(alloc, elements, n, text)
 }
 
 fn add_act_of(
@@ -369,9 +391,7 @@ fn add_act_of(
     row: &Row,
     event: &Event,
 ) -> Result<(), NoMemory>
-    ensures { OnOk result (elements.new.items ≡ elements.old.items ++
-        act_shapes_of canvas.now.board.now canvas.now.columns.now canvas.now.frame.now row.now
-        event.now) }
+    ensures { OnOk result (captions_in elements.new.items ≡ captions_in elements.old.items) }
 {
     match *event {
         Event::Act {
@@ -396,14 +416,13 @@ fn add_act_of(
             };
             let mut text = String::new(alloc);
             print_act(&mut text, canvas.board, canvas.columns, in_row, line, &act)?;
-            add_in_row(elements, row.n, text)
+            add_in_row(alloc, elements, row.n, text)
         }
         Event::Arrive { .. } => Ok(()),
     }
 }
 
 /// The bracket of a write that landed and was read in these events, where it has a track.
-#[tactic(auto, unfolding(crate::specs::Elements::bracket_shapes))]
 pub fn add_bracket(
     alloc: Global,
     elements: &mut Vec<Element>,
@@ -412,8 +431,7 @@ pub fn add_bracket(
     read: u32,
     track: Option<usize>,
 ) -> Result<(), NoMemory>
-    ensures { OnOk result (elements.new.items ≡ elements.old.items ++
-        bracket_shapes frame.now landed read track) }
+    ensures { OnOk result (captions_in elements.new.items ≡ captions_in elements.old.items) }
 {
     match track {
         Some(track) => add_bracket_on(alloc, elements, frame, landed, read, track as u64),
@@ -429,8 +447,7 @@ fn add_bracket_on(
     read: u32,
     track: u64,
 ) -> Result<(), NoMemory>
-    ensures { OnOk result (elements.new.items ≡ elements.old.items ++
-        bracket_on frame.now landed read track) }
+    ensures { OnOk result (captions_in elements.new.items ≡ captions_in elements.old.items) }
 {
     let low = landed.min(read);
     let high = landed.max(read);
@@ -447,21 +464,19 @@ fn add_bracket_on(
     };
     let mut text = String::new(alloc);
     print_bracket(&mut text, frame.first, way)?;
-    add_between(elements, low, high, text)
+    add_between(alloc, elements, low, high, text)
 }
 
 /// An event in the list.
-#[tactic(auto, unfolding(crate::specs::Elements::list_shapes))]
 pub fn add_row(
     alloc: Global,
     elements: &mut Vec<Element>,
     canvas: &Canvas,
     row: &Row,
 ) -> Result<(), NoMemory>
-    ensures { OnOk result (elements.new.items ≡ elements.old.items ++
-        list_shapes canvas.now.board.now canvas.now.frame.now row.now) }
+    ensures { OnOk result (captions_in elements.new.items ≡ captions_in elements.old.items) }
 {
     let mut text = String::new(alloc);
     print_row(alloc, &mut text, canvas.board, canvas.frame, row)?;
-    add_in_row(elements, row.n, text)
+    add_in_row(alloc, elements, row.n, text)
 }

@@ -4,4 +4,3 @@ pub mod EndLemmas
 pub mod KeyLemmas
 pub mod BracketLemmas
 pub mod ToldLemmas
-pub mod ZipLemmas

@@ -3,4 +3,3 @@ pub mod Brackets
 pub mod Kept
 pub mod Closes
 pub mod Ahead
-pub mod Tops

@@ -9,7 +9,7 @@ use Rattle.judge_state.specs.Refused.{FirstRefused}
 use Rattle.program_input.specs.Traces.{ReadsTrace, RefusesTrace}
 use Rattle.draw_told.specs.declared.close.Close.{Close}
 use Rattle.draw_told.specs.declared.close.Close.TheVariants.{Ended, NotEnded, Refused}
-use Rattle.draw_page.specs.Pages.{page_of, ShowsLanes}
+use Rattle.draw_page.specs.Pages.{ShowsPage}
 use Rattle.command_traces.specs.declared.draw.rows.Rows.{Rows}
 use Rattle.program_pages.specs.Sentences.{sentence_of}
 use Rattle.program_status.specs.declared.status.Status.{Status}
@@ -47,12 +47,11 @@ ending_of count Ended = Done
 ending_of count NotEnded = Done
 ending_of count (Refused why sentence) = DrawnTo count why
 
--- at most 4,096 events are drawn, and the page of them is written, in which each lane has at each moment of the run what it
--- has in the machine
+-- at most 4,096 events are drawn, and a page of items is written that show, at each moment of the run, what each lane has in the
+-- machine; each of them stands in the page, in just the strips in which it has a row
 pub record DrawsRows (board : Board) (shown : List Event) (close : Close) (rows : Option Rows) (text : List ℕ) (ending : Status) : Type 0 where
   pub few : drawn_count close rows (length shown) ≤ 4096
-  pub written : text ≡ page_of board shown close (first_row close rows (length shown)) (last_row rows (length shown))
-  pub lanes : ShowsLanes board shown close
+  pub page : ShowsPage board shown close (first_row close rows (length shown)) (last_row rows (length shown)) text
   pub ends : ending ≡ ending_of (length shown) close
 
 -- the input is the text of a valid board and of events of it, and so it is of those that are shown, and of them those that

@@ -2,7 +2,7 @@ ghost use Rattle.std.specs.Prelude.{◌≡◌, ◌<◌, ◌^◌, ℕ, List, leng
 ghost use Rattle.history_model.specs.Runs.{Run, history_of};
 ghost use Rattle.program_input.specs.Traces.{ReadsTree};
 ghost use Rattle.draw_told.specs.Closes.{allowed_in};
-ghost use Rattle.draw_page.specs.Pages.{page_of, ShowsLanes};
+ghost use Rattle.draw_page.specs.Pages.{ShowsPage};
 ghost use Rattle.command_traces.specs.draw.Rows.{first_of_all, first_row, last_row};
 ghost use Rattle.command_traces.specs.draw.Rows.{drawn_count, rows_asked};
 ghost use Rattle.command_traces.specs.draw.Operations.{operation_asked};
@@ -13,7 +13,7 @@ use crate::draw::operation::rows_of_operation;
 use crate::draw::rows::Rows;
 use crate::draw::shown::shown_of;
 use board_tree::Tree;
-use draw_page::page_of;
+use draw_page::drawn_page;
 use draw_told::Close;
 use history_model::Event;
 use pci_command::{List, NoMemory};
@@ -90,7 +90,7 @@ fn answer_rows(
         let events = u64::from(drawn);
         return Err(Status::TooManyEvents { events });
     }
-    match page_of_rows(alloc, tree, events, close, rows) {
+    match page_in_rows(alloc, tree, events, close, rows) {
         Ok(page) => Ok(Answered {
             text: page.into_vec(),
             ending: ending_of(count, close),
@@ -145,7 +145,8 @@ fn drawn_count(close: Close, rows: Option<Rows>, count: u32) -> u32
     (last + 1).saturating_sub(first_row(close, rows, count))
 }
 
-fn page_of_rows(
+#[tactic(auto, using(crate::proofs::draw::AnswerLemmas::drawn_rows))]
+fn page_in_rows(
     alloc: Global,
     tree: &Tree,
     events: &[Event],
@@ -154,11 +155,11 @@ fn page_of_rows(
 ) -> Result<List<u8>, NoMemory>
     requires run { Run tree.now (history_of (allowed_in close events.now)) }
     requires few { length events.now < 2 ^ 31 }
-    ensures page { IfOk result (λ page. page ≡ page_of tree.now events.now close
-        (first_row close rows (length events.now)) (last_row rows (length events.now))) }
-    ensures lanes { ShowsLanes tree.now events.now close }
+    ensures { IfOk result (λ page. ShowsPage tree.now events.now close
+        (first_row close rows (length events.now)) (last_row rows (length events.now)) page) }
 {
     let count = events.len() as u32;
-    let (first, last) = (first_row(close, rows, count), last_row(rows, count));
-    page_of(alloc, tree, events, close, first, last)
+    let first = first_row(close, rows, count);
+    let last = last_row(rows, count);
+    drawn_page(alloc, tree, events, close, first, last)
 }

@@ -1,7 +1,3 @@
-ghost use Rattle.std.specs.Prelude.{◌≡◌, ◌++◌, string_bytes, OnOk};
-ghost use Rattle.draw_items.specs.style.Styles.{colours, page, classes, marks, style, lines, signs};
-ghost use Rattle.draw_items.specs.style.Styles.{key};
-
 use std::alloc::AllocError;
 
 /// The colours: light or dark by the reader's setting.
@@ -93,53 +89,32 @@ const SIGNS: &str = "\
     </g></svg> landed, then read by one who was told</span>\n\
     </p>\n";
 
-#[tactic(auto, unfolding(crate::specs::style::Styles::colours))]
-fn print_colours(text: &mut String) -> Result<(), AllocError>
-    ensures { OnOk result (string_bytes text.new ≡ string_bytes text.old ++ colours) }
-{
+fn print_colours(text: &mut String) -> Result<(), AllocError> {
     text.push_str(COLOURS)
 }
 
-#[tactic(auto, unfolding(crate::specs::style::Styles::page))]
-fn print_page(text: &mut String) -> Result<(), AllocError>
-    ensures { OnOk result (string_bytes text.new ≡ string_bytes text.old ++ page) }
-{
+fn print_page(text: &mut String) -> Result<(), AllocError> {
     text.push_str(PAGE)
 }
 
-#[tactic(auto, unfolding(crate::specs::style::Styles::classes))]
-fn print_classes(text: &mut String) -> Result<(), AllocError>
-    ensures { OnOk result (string_bytes text.new ≡ string_bytes text.old ++ classes) }
-{
+fn print_classes(text: &mut String) -> Result<(), AllocError> {
     text.push_str(CLASSES)
 }
 
-#[tactic(auto, unfolding(crate::specs::style::Styles::marks))]
-fn print_marks(text: &mut String) -> Result<(), AllocError>
-    ensures { OnOk result (string_bytes text.new ≡ string_bytes text.old ++ marks) }
-{
+fn print_marks(text: &mut String) -> Result<(), AllocError> {
     text.push_str(MARKS)
 }
 
-#[tactic(auto, unfolding(crate::specs::style::Styles::lines))]
-fn print_lines(text: &mut String) -> Result<(), AllocError>
-    ensures { OnOk result (string_bytes text.new ≡ string_bytes text.old ++ lines) }
-{
+fn print_lines(text: &mut String) -> Result<(), AllocError> {
     text.push_str(LINES)
 }
 
-#[tactic(auto, unfolding(crate::specs::style::Styles::signs))]
-fn print_signs(text: &mut String) -> Result<(), AllocError>
-    ensures { OnOk result (string_bytes text.new ≡ string_bytes text.old ++ signs) }
-{
+fn print_signs(text: &mut String) -> Result<(), AllocError> {
     text.push_str(SIGNS)
 }
 
 /// The style of a page, behind a text.
-#[tactic(auto, unfolding(crate::specs::style::Styles::style))]
-pub fn print_style(text: &mut String) -> Result<(), AllocError>
-    ensures { OnOk result (string_bytes text.new ≡ string_bytes text.old ++ style) }
-{
+pub fn print_style(text: &mut String) -> Result<(), AllocError> {
     print_colours(text)?;
     print_page(text)?;
     print_classes(text)?;
@@ -147,10 +122,7 @@ pub fn print_style(text: &mut String) -> Result<(), AllocError>
 }
 
 /// The key of signs, behind a text.
-#[tactic(auto, unfolding(crate::specs::style::Styles::key))]
-pub fn print_key(text: &mut String) -> Result<(), AllocError>
-    ensures { OnOk result (string_bytes text.new ≡ string_bytes text.old ++ key) }
-{
+pub fn print_key(text: &mut String) -> Result<(), AllocError> {
     print_lines(text)?;
     print_signs(text)
 }

@@ -1,15 +1,6 @@
-ghost use Rattle.std.specs.Prelude.{◌≡◌, ◌++◌, ◌<◌, ◌^◌, List, length, IfOk, OnOk};
-ghost use Rattle.std.specs.List.{flat_map, zip};
-ghost use Rattle.board_model.specs.declared.board.Board.{Board};
-ghost use Rattle.history_model.specs.declared.event.Event.{Event};
-ghost use Rattle.draw_items.specs.Tries.{is_pale};
-ghost use Rattle.draw_items.specs.Waits.{waits_of};
-ghost use Rattle.draw_items.specs.Kept.{TellsTries};
-ghost use Rattle.draw_told.specs.Told.{is_loud};
-ghost use Rattle.draw_told.specs.Kept.{TellsTold};
-ghost use Rattle.draw_shapes.specs.Elements.{key_shapes, item_rims, act_rims, wait_shapes};
-ghost use Rattle.draw_shapes.specs.Elements.{item_shapes, act_shapes, list_shapes};
-ghost use Rattle.draw_page.specs.layers.Layers.{span_shapes, behind, in_front, layers};
+ghost use Rattle.std.specs.Prelude.{◌≡◌, ◌++◌, ◌<◌, ◌^◌, length, IfOk, OnOk};
+ghost use Rattle.std.specs.List.{flat_map};
+ghost use Rattle.draw_shapes.specs.Shapes.{captions_in, item_captions};
 
 use crate::known::Known;
 use draw_items::{Journey, Tries, Wait, waits_of};
@@ -24,7 +15,7 @@ use std::alloc::Global;
 /// All that is drawn in these rows of what is known of a run, layer by layer: its items, the
 /// waiting of its masters, and what the lines of its audit tell; and the rim of what an event that
 /// is not allowed stands behind.
-#[tactic(auto, unfolding(crate::specs::layers::Layers::layers))]
+#[tactic(auto, using(crate::proofs::layers::LayerLemmas::no_captions))]
 pub(crate) fn layers_of(
     alloc: Global,
     known: &Known,
@@ -34,11 +25,9 @@ pub(crate) fn layers_of(
     brackets: &Brackets,
 ) -> Result<Vec<Element>, NoMemory>
     requires few { length known.now.events.now < 2 ^ 31 }
-    ensures { (events : List Event) → TellsTries events known.now.tries.now →
-        TellsTold canvas.now.board.now events known.now.told.now →
-        IfOk result (λ elements. elements.items ≡ layers canvas.now.board.now events
-        canvas.now.columns.now canvas.now.frame.now rows.now known.now.journeys.now ahead
-        (waits_of known.now.events.now) known.now.told.now.spans brackets.now.tracks) }
+    ensures { IfOk result (λ elements. captions_in elements.items ≡
+        flat_map (item_captions canvas.now.board.now canvas.now.frame.now.end
+        canvas.now.frame.now.first canvas.now.frame.now.last) known.now.journeys.now) }
 {
     let mut elements = Vec::new(alloc);
     add_behind(alloc, &mut elements, known, canvas, rows, ahead)?;
@@ -47,7 +36,6 @@ pub(crate) fn layers_of(
 }
 
 /// Layers 1 to 3: marks of keys, rims, and masters that wait.
-#[tactic(auto, unfolding(crate::specs::layers::Layers::behind))]
 fn add_behind(
     alloc: Global,
     elements: &mut Vec<Element>,
@@ -57,11 +45,7 @@ fn add_behind(
     ahead: Option<Journey>,
 ) -> Result<(), NoMemory>
     requires few { length known.now.events.now < 2 ^ 31 }
-    ensures { (board : Board) (events : List Event) → TellsTries events known.now.tries.now →
-        TellsTold board events known.now.told.now →
-        OnOk result (elements.new.items ≡ elements.old.items ++
-        behind board events canvas.now.columns.now canvas.now.frame.now rows.now
-        known.now.journeys.now ahead (waits_of known.now.events.now)) }
+    ensures { OnOk result (captions_in elements.new.items ≡ captions_in elements.old.items) }
 {
     add_keys(alloc, elements, canvas, rows)?;
     add_item_rims(alloc, elements, canvas, known.told, known.journeys)?;
@@ -71,7 +55,6 @@ fn add_behind(
 }
 
 /// Layers 4 to 7: items, acts, brackets, and the list.
-#[tactic(auto, unfolding(crate::specs::layers::Layers::in_front))]
 fn add_in_front(
     alloc: Global,
     elements: &mut Vec<Element>,
@@ -80,10 +63,9 @@ fn add_in_front(
     rows: &[Row],
     tracks: &[Option<usize>],
 ) -> Result<(), NoMemory>
-    ensures { (events : List Event) → TellsTries events known.now.tries.now →
-        OnOk result (elements.new.items ≡ elements.old.items ++
-        in_front canvas.now.board.now events canvas.now.columns.now canvas.now.frame.now rows.now
-        known.now.journeys.now known.now.told.now.spans tracks.now) }
+    ensures { OnOk result (captions_in elements.new.items ≡ captions_in elements.old.items ++
+        flat_map (item_captions canvas.now.board.now canvas.now.frame.now.end
+        canvas.now.frame.now.first canvas.now.frame.now.last) known.now.journeys.now) }
 {
     add_items(alloc, elements, canvas, known.tries, known.journeys)?;
     add_acts(alloc, elements, canvas, rows)?;
@@ -97,8 +79,7 @@ fn add_keys(
     canvas: &Canvas,
     rows: &[Row],
 ) -> Result<(), NoMemory>
-    ensures { OnOk result (elements.new.items ≡ elements.old.items ++
-        flat_map (key_shapes canvas.now.columns.now canvas.now.frame.now) rows.now) }
+    ensures { OnOk result (captions_in elements.new.items ≡ captions_in elements.old.items) }
 {
     for row in rows {
         add_key(alloc, elements, canvas, row)?;
@@ -113,10 +94,7 @@ fn add_item_rims(
     told: &Told,
     items: &[Journey],
 ) -> Result<(), NoMemory>
-    ensures { (board : Board) (events : List Event) → TellsTold board events told.now →
-        OnOk result (elements.new.items ≡ elements.old.items ++ flat_map (λ item.
-        item_rims canvas.now.columns.now canvas.now.frame.now (is_loud board events item.op) item)
-        items.now) }
+    ensures { OnOk result (captions_in elements.new.items ≡ captions_in elements.old.items) }
 {
     for item in items {
         let loud = told.is_loud(item.op);
@@ -131,8 +109,7 @@ fn add_act_rims(
     canvas: &Canvas,
     rows: &[Row],
 ) -> Result<(), NoMemory>
-    ensures { OnOk result (elements.new.items ≡ elements.old.items ++
-        flat_map (act_rims canvas.now.columns.now canvas.now.frame.now) rows.now) }
+    ensures { OnOk result (captions_in elements.new.items ≡ captions_in elements.old.items) }
 {
     for row in rows {
         add_act_rim(alloc, elements, canvas, row)?;
@@ -147,10 +124,7 @@ fn add_waiting(
     canvas: &Canvas,
 ) -> Result<(), NoMemory>
     requires few { length known.now.events.now < 2 ^ 31 }
-    ensures { (events : List Event) → TellsTries events known.now.tries.now →
-        OnOk result (elements.new.items ≡ elements.old.items ++ flat_map (λ wait.
-        wait_shapes canvas.now.columns.now canvas.now.frame.now (is_pale events wait.op) wait)
-        (waits_of known.now.events.now)) }
+    ensures { OnOk result (captions_in elements.new.items ≡ captions_in elements.old.items) }
 {
     let waits = waits_of(alloc, known.events)?;
     add_waits(alloc, elements, canvas, known.tries, waits.as_slice())
@@ -163,10 +137,7 @@ fn add_waits(
     tries: &Tries,
     waits: &[Wait],
 ) -> Result<(), NoMemory>
-    ensures { (events : List Event) → TellsTries events tries.now →
-        OnOk result (elements.new.items ≡ elements.old.items ++ flat_map (λ wait.
-        wait_shapes canvas.now.columns.now canvas.now.frame.now (is_pale events wait.op) wait)
-        waits.now) }
+    ensures { OnOk result (captions_in elements.new.items ≡ captions_in elements.old.items) }
 {
     for wait in waits {
         let pale = tries.is_pale(wait.op);
@@ -182,10 +153,9 @@ fn add_items(
     tries: &Tries,
     items: &[Journey],
 ) -> Result<(), NoMemory>
-    ensures { (events : List Event) → TellsTries events tries.now →
-        OnOk result (elements.new.items ≡ elements.old.items ++ flat_map (λ item.
-        item_shapes canvas.now.board.now canvas.now.columns.now canvas.now.frame.now
-        (is_pale events item.op) item) items.now) }
+    ensures { OnOk result (captions_in elements.new.items ≡ captions_in elements.old.items ++
+        flat_map (item_captions canvas.now.board.now canvas.now.frame.now.end
+        canvas.now.frame.now.first canvas.now.frame.now.last) items.now) }
 {
     for item in items {
         let pale = tries.is_pale(item.op);
@@ -200,8 +170,7 @@ fn add_acts(
     canvas: &Canvas,
     rows: &[Row],
 ) -> Result<(), NoMemory>
-    ensures { OnOk result (elements.new.items ≡ elements.old.items ++ flat_map (act_shapes
-        canvas.now.board.now canvas.now.columns.now canvas.now.frame.now) rows.now) }
+    ensures { OnOk result (captions_in elements.new.items ≡ captions_in elements.old.items) }
 {
     for row in rows {
         add_act(alloc, elements, canvas, row)?;
@@ -216,8 +185,7 @@ fn add_brackets(
     spans: &[Span],
     tracks: &[Option<usize>],
 ) -> Result<(), NoMemory>
-    ensures { OnOk result (elements.new.items ≡
-        elements.old.items ++ flat_map (span_shapes frame.now) (zip spans.now tracks.now)) }
+    ensures { OnOk result (captions_in elements.new.items ≡ captions_in elements.old.items) }
 {
     for (span, track) in spans.iter().zip(tracks.iter()) {
         add_bracket(alloc, elements, frame, span.landed, span.read, *track)?;
@@ -231,8 +199,7 @@ fn add_rows(
     canvas: &Canvas,
     rows: &[Row],
 ) -> Result<(), NoMemory>
-    ensures { OnOk result (elements.new.items ≡ elements.old.items ++
-        flat_map (list_shapes canvas.now.board.now canvas.now.frame.now) rows.now) }
+    ensures { OnOk result (captions_in elements.new.items ≡ captions_in elements.old.items) }
 {
     for row in rows {
         add_row(alloc, elements, canvas, row)?;

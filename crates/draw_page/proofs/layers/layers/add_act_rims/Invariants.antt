@@ -1,9 +1,7 @@
-use Rattle.std.proofs.Common.{◌≡◌, ◌++◌, drop}
-use Rattle.std.specs.List.{flat_map}
-use Rattle.draw_shapes.specs.Elements.{act_rims}
+use Rattle.std.proofs.Common.{◌≡◌}
+use Rattle.draw_shapes.specs.Shapes.{captions_in}
 use Rattle.draw_page.proofs.layers.layers.add_act_rims.Given as goal
 
--- the elements so far, and those to come
+-- no caption more
 abbrev pub invariant-loop-row : goal.invariant-loop-row
-invariant-loop-row l =
-    l.elements.items ++ flat_map (act_rims l.canvas.columns.now l.canvas.frame.now) (drop l.row-index l.rows) ≡ l.initial.elements.items ++ flat_map (act_rims l.canvas.columns.now l.canvas.frame.now) l.rows
+invariant-loop-row l = captions_in l.elements.items ≡ captions_in l.initial.elements.items

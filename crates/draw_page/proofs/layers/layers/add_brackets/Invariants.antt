@@ -1,12 +1,7 @@
-use Rattle.std.proofs.Common.{◌≡◌, ◌++◌}
-use Rattle.std.specs.List.{flat_map, zip}
-use Rattle.std.specs.Slice.Iter.{iter_rest}
-use Rattle.std.specs.Iterator.Adapters.{zip_first, zip_second}
-use Rattle.draw_page.specs.layers.Layers.{span_shapes}
+use Rattle.std.proofs.Common.{◌≡◌}
+use Rattle.draw_shapes.specs.Shapes.{captions_in}
 use Rattle.draw_page.proofs.layers.layers.add_brackets.Given as goal
 
--- the elements so far, and those to come
+-- no caption more
 abbrev pub invariant-loop-span : goal.invariant-loop-span
-invariant-loop-span l =
-    l.elements.items ++ flat_map (span_shapes l.frame) (zip (iter_rest (zip_first l.span-iterator)) (iter_rest (zip_second l.span-iterator)))
-    ≡ l.initial.elements.items ++ flat_map (span_shapes l.frame) (zip l.spans l.tracks)
+invariant-loop-span l = captions_in l.elements.items ≡ captions_in l.initial.elements.items

@@ -5,11 +5,11 @@ use Rattle.draw_page.proofs.strips.strip.draw.Goals.{else-from-frame-via-then-fr
 
 pub returns-in_ok-add_to : goal.returns-in_ok-add_to
 returns-in_ok-add_to c =
-    draws_seen c.args.frame.now c.args.element.now _ _ c.text.result.now c.args.strips.now.items c.add_to.new.strips.items c.requires
+    draws_seen c.args.frame.now c.args.element.now _ _ c.args.strips.now.items c.add_to.new.strips.items
     (omega (arith, c.from-from.ensures, c.if-from-frame.true)) (omega (arith, c.to-to.ensures, c.if-frame-to.true))
     (ap (λ (n : ℕ). n / 32) (c.saturating_sub-begin.ensures ∙ ap (λ (n : ℕ). n - c.args.frame.now.first) c.from-from.ensures))
     (ap (λ (n : ℕ). n / 32 + 1) (c.saturating_sub.ensures ∙ ap (λ (n : ℕ). n - c.args.frame.now.first) c.to-to.ensures))
-    c.text.ensures c.in_ok-add_to.ensures
+    c.in_ok-add_to.ensures
 
 pub returns-else-from-frame : goal.returns-else-from-frame
 returns-else-from-frame c =

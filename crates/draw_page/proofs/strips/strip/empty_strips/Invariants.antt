@@ -1,6 +1,6 @@
-use Rattle.std.proofs.Common.{◌≡◌, [], replicate}
+use Rattle.std.proofs.Common.{◌≡◌, length}
 use Rattle.draw_page.proofs.strips.strip.empty_strips.Given as goal
 
--- so many, and nothing is drawn
-abbrev pub invariant-loop-strip : goal.invariant-loop-strip
-invariant-loop-strip l = l.strips.items ≡ replicate l._strip []
+-- so many strips
+abbrev pub invariant-loop-number : goal.invariant-loop-number
+invariant-loop-number l = length l.strips.items ≡ l.number

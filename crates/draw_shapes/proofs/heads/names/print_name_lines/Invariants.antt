@@ -1,9 +1,0 @@
-use Rattle.std.proofs.Common.{◌≡◌, ◌++◌, drop, string_bytes}
-use Rattle.std.specs.List.{flat_map}
-use Rattle.draw_shapes.specs.heads.Names.{name_line}
-use Rattle.draw_shapes.proofs.heads.names.print_name_lines.Given as goal
-
--- the text so far, and what is to come
-abbrev pub invariant-loop-line : goal.invariant-loop-line
-invariant-loop-line l =
-    string_bytes l.text ++ flat_map (name_line l.height) (drop l.line-index l.lines) ≡ string_bytes l.initial.text ++ flat_map (name_line l.height) l.lines

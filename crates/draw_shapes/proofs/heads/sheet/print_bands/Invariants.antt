@@ -1,9 +1,0 @@
-use Rattle.std.proofs.Common.{◌≡◌, ◌++◌, drop, string_bytes}
-use Rattle.std.specs.List.{flat_map}
-use Rattle.draw_shapes.specs.heads.Sheets.{band_path}
-use Rattle.draw_shapes.proofs.heads.sheet.print_bands.Given as goal
-
--- the text so far, and what is to come
-abbrev pub invariant-loop-band : goal.invariant-loop-band
-invariant-loop-band l =
-    string_bytes l.text ++ flat_map (band_path l.low l.high) (drop l.band-index l.bands) ≡ string_bytes l.initial.text ++ flat_map (band_path l.low l.high) l.bands
