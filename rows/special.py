@@ -41,6 +41,24 @@ def threads_row(time):
 ROWS += [threads_row(time) for time in range(1, 21)]
 
 
+# Boards on which a driver and a device poll what is beside them, twenty times each: `run` spends the tries of none.
+
+
+def polls_row(board, time):
+    name = f"polls_of_{board}_time_{time}"
+
+    def polls(place):
+        whole = place.call("run", f"threads/{board}.board")
+        seen = place.call("report", place.file("whole", whole.out)) if whole.status == 0 else whole
+        spent = [line for line in seen.out.splitlines(True) if b" spent " in line]
+        yield name, seen_as(seen, b"".join(spent)), Wanted(0, b"", "-")
+
+    return name, polls
+
+
+ROWS += [polls_row(board, time) for board in ("ahci", "nvme", "virtio", "xhci") for time in range(1, 21)]
+
+
 # Inputs of just as many bytes as they may have, and of one more: the room is filled with comments.
 
 

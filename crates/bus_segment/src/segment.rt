@@ -104,6 +104,13 @@ impl<L: LaneEnd + Drop> Segment<L> {
         self.events.len()
     }
 
+    /// The events that it recorded, oldest first.
+    pub fn events(&self) -> &[Stamped]
+        ensures { result.now ≡ self.now.events.items }
+    {
+        self.events.as_slice()
+    }
+
     /// For how many more events there is room.
     pub fn spare(&self) -> usize
         ensures spare { result ≡ vec_capacity self.now.events - vec_len self.now.events }

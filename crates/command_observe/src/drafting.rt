@@ -10,7 +10,7 @@ use board_model::{Board, Place};
 use board_tree::Tree;
 use observe_found::{LogFound, Times, find};
 use observe_order::{Ordered, order};
-use observe_told::{Log, Unfound, Unseen};
+use observe_told::{Log, Unfound, Unseen, WhyNot};
 use pci_command::{Command, NoMemory};
 use program_input::tree_of;
 use program_status::{BoardFault, LogExcess, LogRefusal, Status};
@@ -65,9 +65,27 @@ pub(crate) struct Told {
     pub(crate) ordered: Ordered,
 }
 
-/// What the log tells. Where its acts are no run, no Retry latched what went on when it began, as
-/// far as others may have: if that makes them a run, it is told.
+/// What the log tells. A bridge that is full at 8, the greatest number that can be written, may
+/// hold more, and is not accused of it: the log is too much.
 pub(crate) fn told_by(alloc: Global, read: &TreeLog) -> Result<Told, Untold>
+    ensures { IfOk result (λ told. EndsLanded told.tree told.ordered.run) }
+{
+    let told = told_best(alloc, read)?;
+    let Some(refused) = told.ordered.refused() else {
+        return Ok(told);
+    };
+    match refused.reason {
+        WhyNot::FullOfWrites { posted: 8, .. } | WhyNot::FullOfRequests { delayed: 8, .. } => {
+            drop(told);
+            Err(too_much(&read.log, refused.line, LogExcess::Pieces))
+        }
+        _ => Ok(told),
+    }
+}
+
+/// The same. Where its acts are no run, no Retry latched what went on when it began, as far as
+/// others may have: if that makes them a run, it is told.
+fn told_best(alloc: Global, read: &TreeLog) -> Result<Told, Untold>
     ensures { IfOk result (λ told. EndsLanded told.tree told.ordered.run) }
 {
     let told = told_with(alloc, read, Times::Meet)?;

@@ -7,6 +7,7 @@ mod begin;
 mod gate;
 mod phase;
 mod rounds;
+mod tries;
 
 pub use gate::{Gate, NoGate};
 pub use rounds::run_rings;

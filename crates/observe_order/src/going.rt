@@ -18,8 +18,7 @@ pub(crate) fn begun(alloc: Global, tree: &Tree) -> Result<Course, NoMemory>
     ensures { IfOk result (IsCourse tree.now []) }
 {
     let kept = Kept::new(alloc, tree)?;
-    let course = Course::new(alloc, tree, kept)?;
-    Ok(course)
+    Course::new(alloc, tree, kept)
 }
 
 /// Whether the act is allowed: then it happens, and all arrivals behind it. What was refused on the

@@ -1,7 +1,7 @@
 ghost use Rattle.std.specs.Prelude.{IsTrue};
 ghost use Rattle.board_model.specs.WellFormed.{is_well_formed};
 
-use board_model::{Board, Bridge, Lane, Place, bridge_to, end_of, request_of};
+use board_model::{Board, Lane, Place, bridge_to, end_of, request_of};
 use history_model::{Answer, By, Carried, Cause, Event, Step, Why};
 use judge_state::Kept;
 use machine_steps::Presented;
@@ -36,10 +36,8 @@ impl<'a> Past<'a> {
                 self.retried(presented, step, place, cause),
             ),
             Answer::Gives { step: given, .. } => {
-                (
-                    Why::AnsweredOtherwise,
-                    self.otherwise(presented, step, place, given),
-                )
+                let reason = self.otherwise(presented, step, place, given);
+                (Why::AnsweredOtherwise, reason)
             }
         }
     }
@@ -121,23 +119,21 @@ impl<'a> Past<'a> {
             return WhyNot::AnsweredBy { step };
         };
         let bridge = lane.bus;
+        let (posted, delayed) = self.depths(bridge);
         match cause {
-            Cause::Full => WhyNot::FullOfWrites {
-                bridge,
-                posted: self.bridge(lane).map_or(0, |bridge| bridge.posted),
-            },
-            Cause::NoSlot if step != Step::Latch => self.no_completion(lane, presented),
-            Cause::NoSlot => WhyNot::FullOfRequests {
-                bridge,
-                delayed: self.bridge(lane).map_or(0, |bridge| bridge.delayed),
-            },
+            Cause::Full => WhyNot::FullOfWrites { bridge, posted },
+            // Of 8, the greatest number, it may hold more: nothing is known of their completions.
+            Cause::NoSlot if step == Step::Latch || delayed == 8 => {
+                WhyNot::FullOfRequests { bridge, delayed }
+            }
+            Cause::NoSlot => self.no_completion(lane, presented),
             Cause::Waiting => WhyNot::NotCome { bridge },
             Cause::Behind => self.completion_behind(lane),
         }
     }
 
-    fn bridge(&self, lane: Lane) -> Option<&'a Bridge> {
-        bridge_to(self.board, lane.bus)
+    fn depths(&self, bus: u8) -> (u8, u8) {
+        bridge_to(self.board, bus).map_or((0, 0), |bridge| (bridge.posted, bridge.delayed))
     }
 
     /// The oldest posted write that goes the way of the lane's completions.
@@ -237,8 +233,7 @@ impl<'a> Past<'a> {
     /// The last line that wrote the dword that the operation reads.
     fn written_at(&self, presented: Presented) -> Option<u32> {
         let bus = presented.bus;
-        let read = request_of(self.board, presented.op, bus)?;
-        let address = read.address;
+        let address = request_of(self.board, presented.op, bus)?.address;
         let mut acts = self.taken.iter().rev();
         let found = acts.find(|act| self.lands_on(act, bus) && self.writes(act.op, bus, address));
         found.map(|act| act.line)

@@ -120,7 +120,7 @@ const NO_ACT: &str = "a bridge drives what it does not hold";
 fn sentence_of_excess(excess: LogExcess) -> &'static str {
     match excess {
         LogExcess::Operations => "more operations, masters or opening words than a board may have",
-        LogExcess::Pieces => "posted writes in more pieces than a bridge may hold",
+        LogExcess::Pieces => "more posted writes or delayed requests than a bridge may hold",
         LogExcess::Events => "more events than a run may have",
         LogExcess::Pairings => "too many pairings of equal requests to try",
     }

@@ -163,13 +163,15 @@ pub static LOG_PAGES: [Page; 10] = [
         fault: Fault::Excess(LogExcess::Pieces),
         rule: "A bridge of this machine holds at most 8 posted writes in each direction, of at \
             most 8 dwords in\n\
-            one block of 64 bytes. A burst counts as several where it passes such a block, goes \
-            on behind\n\
-            eight dwords, or was cut by a Disconnect somewhere on its way. A bridge with larger \
-            buffers can\n\
-            hold more of these pieces, and is right; this machine cannot follow it. Try shorter \
-            bursts, or\n\
-            targets that disconnect less often.",
+            one block of 64 bytes, and 8 delayed requests. A burst counts as several writes \
+            where it passes\n\
+            such a block, goes on behind eight dwords, or was cut by a Disconnect somewhere on \
+            its way. So\n\
+            `posted 8` and `delayed 8` say at least 8: a bridge with larger buffers can hold \
+            more, and is\n\
+            right; this machine cannot follow it. A bridge whose line says less is refused (N3). \
+            Try shorter\n\
+            bursts, targets that disconnect less often, or fewer masters at once.",
         example: "pcilog 1\n\
             pciboard 1\n\
             bridge 1 on 0 dev 1 last 1 posted 8\n\

@@ -64,6 +64,13 @@ impl<L: LaneEnd + Drop> Worker<L> {
         self.segment.recorded()
     }
 
+    /// The events that it recorded, oldest first.
+    pub fn events(&self) -> &[Stamped]
+        ensures { result.now ≡ self.now.segment.events.items }
+    {
+        self.segment.events()
+    }
+
     /// Whether it does nothing more.
     pub fn stopped(&self) -> bool
         ensures { result ≡ self.now.segment.stopped }
