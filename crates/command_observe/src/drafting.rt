@@ -59,15 +59,15 @@ impl From<Untold> for Status {
 
 /// What a log tells, the tree of the board that was found, and the acts in an order.
 #[derive(Drop)]
-pub(crate) struct Told {
-    pub(crate) tree: Tree,
-    pub(crate) unseen: Unseen,
-    pub(crate) ordered: Ordered,
+pub struct LogTold {
+    pub tree: Tree,
+    pub unseen: Unseen,
+    pub ordered: Ordered,
 }
 
 /// What the log tells. A bridge that is full at 8, the greatest number that can be written, may
 /// hold more, and is not accused of it: the log is too much.
-pub(crate) fn told_by(alloc: Global, read: &TreeLog) -> Result<Told, Untold>
+pub(crate) fn told_by(alloc: Global, read: &TreeLog) -> Result<LogTold, Untold>
     ensures { IfOk result (λ told. EndsLanded told.tree told.ordered.run) }
 {
     let told = told_best(alloc, read)?;
@@ -85,7 +85,7 @@ pub(crate) fn told_by(alloc: Global, read: &TreeLog) -> Result<Told, Untold>
 
 /// The same. Where its acts are no run, no Retry latched what went on when it began, as far as
 /// others may have: if that makes them a run, it is told.
-fn told_best(alloc: Global, read: &TreeLog) -> Result<Told, Untold>
+fn told_best(alloc: Global, read: &TreeLog) -> Result<LogTold, Untold>
     ensures { IfOk result (λ told. EndsLanded told.tree told.ordered.run) }
 {
     let told = told_with(alloc, read, Times::Meet)?;
@@ -109,7 +109,7 @@ fn told_best(alloc: Global, read: &TreeLog) -> Result<Told, Untold>
     }
 }
 
-fn told_with(alloc: Global, read: &TreeLog, times: Times) -> Result<Told, Untold>
+fn told_with(alloc: Global, read: &TreeLog, times: Times) -> Result<LogTold, Untold>
     ensures { IfOk result (λ told. EndsLanded told.tree told.ordered.run) }
 {
     match tell(alloc, &read.tree, &read.log, times) {
@@ -119,7 +119,7 @@ fn told_with(alloc: Global, read: &TreeLog, times: Times) -> Result<Told, Untold
 }
 
 /// What a log of the board of this tree tells.
-pub(crate) fn tell(alloc: Global, tree: &Tree, log: &Log, times: Times) -> Result<Told, Unfound>
+pub fn tell(alloc: Global, tree: &Tree, log: &Log, times: Times) -> Result<LogTold, Unfound>
     ensures { IfOk result (λ told. EndsLanded told.tree told.ordered.run) }
 {
     let lines = log.lines.as_slice();
@@ -130,7 +130,7 @@ pub(crate) fn tell(alloc: Global, tree: &Tree, log: &Log, times: Times) -> Resul
     } = find(alloc, tree, lines, log.phases.as_slice(), times)?;
     let tree = found_tree(log, board)?;
     let ordered = order(alloc, &tree, acts, lines)?;
-    Ok(Told {
+    Ok(LogTold {
         tree,
         unseen,
         ordered,

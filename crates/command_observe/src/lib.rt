@@ -8,10 +8,9 @@ mod answer;
 mod drafting;
 mod holding;
 mod reading;
-mod retelling;
 mod telling;
 mod writing;
 
 pub use answer::{answer_acts, answer_observe, answer_observe_owned};
-pub use observe_log::faulty_word;
-pub use retelling::{Retelling, retell};
+pub use drafting::{LogTold, tell};
+pub use reading::{TreeLog, read_tree_log};

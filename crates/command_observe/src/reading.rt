@@ -15,15 +15,15 @@ use text_faults::OrNoMemory;
 
 /// A log, and the tree of its board.
 #[derive(Drop)]
-pub(crate) struct TreeLog {
-    pub(crate) tree: Tree,
-    pub(crate) log: Log,
+pub struct TreeLog {
+    pub tree: Tree,
+    pub log: Log,
 }
 
 /// The log of a valid board whose text these bytes are, which are fewer than 2^31. The tree keeps
 /// the board for itself, so the board part is read twice.
 #[tactic(auto, using(crate::proofs::AnswerLemmas::fault_refuses))]
-pub(crate) fn read_tree_log(alloc: Global, input: &[u8]) -> Result<TreeLog, Status>
+pub fn read_tree_log(alloc: Global, input: &[u8]) -> Result<TreeLog, Status>
     requires { length input.now < 2 ^ 31 }
     ensures ok { IfOk result (ReadsLog input.now) }
     ensures err { IfErr result (RefusesLog input.now) }

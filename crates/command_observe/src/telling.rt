@@ -7,7 +7,7 @@ ghost use Rattle.observe_told.specs.Woven.{events_of, IsWhole};
 ghost use Rattle.trace_roundtrip.specs.Comments.{AreComments};
 ghost use Rattle.command_observe.specs.Judging.{IsRunOf, IsUntold};
 
-use crate::drafting::{Told, Untold, told_by, unheld};
+use crate::drafting::{LogTold, Untold, told_by, unheld};
 use crate::reading::TreeLog;
 use board_tree::Tree;
 use history_model::Event;
@@ -37,7 +37,7 @@ pub(crate) fn run_told(alloc: Global, read: &TreeLog) -> Result<RunOfLog, Status
     let told = told_by(alloc, read)?;
     match said_of_run(alloc, &read.log, &told) {
         Ok(said) => {
-            let Told {
+            let LogTold {
                 tree,
                 unseen,
                 ordered,
@@ -55,7 +55,7 @@ pub(crate) fn run_told(alloc: Global, read: &TreeLog) -> Result<RunOfLog, Status
 
 /// What is said of what was found, where none of its acts was refused and the log tells of them.
 #[tactic(auto, using(crate::proofs::AnswerLemmas::few_events, crate::proofs::AnswerLemmas::told_woven))]
-fn said_of_run(alloc: Global, log: &Log, told: &Told) -> Result<String, Untold>
+fn said_of_run(alloc: Global, log: &Log, told: &LogTold) -> Result<String, Untold>
     requires formed { IsTrue (is_well_formed log.now.board) }
     requires whole { IsWhole told.now.ordered.run }
     ensures few { IfOk result (λ _. length (events_of told.now.ordered.run) < 2 ^ 32) }

@@ -11,7 +11,7 @@ ghost use Rattle.observe_told.specs.Woven.{events_of};
 ghost use Rattle.observe_order.specs.Going.{EndsLanded};
 ghost use Rattle.program_status.specs.declared.status.Status.TheVariants.{NoMemory};
 
-use crate::drafting::{Told, Untold, told_by, unheld};
+use crate::drafting::{LogTold, Untold, told_by, unheld};
 use crate::reading::TreeLog;
 use crate::telling::{RunOfLog, said_of};
 use board_model::Board;
@@ -71,7 +71,7 @@ fn printed_run(alloc: Global, tree: &Tree, run: Woven) -> Result<List<u8>, Statu
 
 /// The trace of the acts that the log tells of, of which nothing is claimed here.
 pub(crate) fn draft_acts(alloc: Global, read: &TreeLog) -> Result<Draft, Untold> {
-    let Told {
+    let LogTold {
         tree,
         unseen,
         ordered,

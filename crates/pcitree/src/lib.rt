@@ -3,13 +3,10 @@
 
 mod answering;
 mod program;
-mod surely;
 mod words;
 
-pub use command_observe::{Retelling, faulty_word, retell};
 pub use command_runs::{Gate, NoGate};
 pub use program::pcitree;
 pub use program_status::{BoardFault, Status};
 pub use program_words::Called;
-pub use surely::pcitree_surely;
 pub use words::{file_word, form_of, input_limit};

@@ -1,8 +1,10 @@
+use command_retelling::retell;
 use message_texts::{
     MOST_DRAWN, limit_text, message_of_bad_log, not_shown, note, unread, unwritten,
 };
+use observe_log::faulty_word;
 use pci_command::NoMemory;
-use pcitree::{Called, Status, faulty_word, form_of, retell};
+use pcitree::{Called, Status, form_of};
 use program_messages::{message, message_of_log};
 use program_pages::Message;
 use program_words::{Reads, usage_help};

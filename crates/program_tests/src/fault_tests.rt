@@ -1,9 +1,10 @@
 //! Each call of a port fails in turn, and a sink fills up. What is wanted stands in the tables, and
 //! was worked out by hand.
 use crate::calls::{answer, sink, source, words};
+use crate::surely::pcitree_surely;
 use io_ports::{MemorySink, MemorySource, SureSink, SureSource};
 use pci_command::List;
-use pcitree::{Called, NoGate, Status, pcitree_surely};
+use pcitree::{Called, NoGate, Status};
 use std::alloc::Global;
 use std::process::Abort;
 use std::test::Fail;

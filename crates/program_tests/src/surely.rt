@@ -1,19 +1,19 @@
+//! The program's call over ports that never fail.
 ghost use Rattle.std.specs.Prelude.{◌≡◌, ◌≢◌, ℕ, List, Some, ◌⊎◌};
 ghost use Rattle.program_words.specs.declared.Form.{Form as WordForm};
 ghost use Rattle.pcitree.specs.Words.{form_of};
 ghost use Rattle.pcitree.specs.Given.{given};
 ghost use Rattle.pcitree.specs.Answers.{IsServed, IsAnswered, Causes};
 
-use crate::program::pcitree;
-use command_runs::Gate;
 use io_ports::{SureSink, SureSource};
+use pcitree::{Gate, pcitree};
 use program_status::Status;
 use program_words::Called;
 use std::alloc::Global;
 use std::thread::Threads;
 
 /// `pcitree` over ports that never fail: an input that is served is answered wherever there is
-/// memory, and other answers refuse the words or the input. No word of the program calls it.
+/// memory, and other answers refuse the words or the input.
 pub fn pcitree_surely<R: Threads + Sync, G: Gate + Sync>(
     rt: &R,
     alloc: Global,

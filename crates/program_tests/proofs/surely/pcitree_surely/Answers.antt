@@ -1,5 +1,5 @@
-use Rattle.pcitree.proofs.SureLemmas.{never_rose, answered_or_no_memory}
-use Rattle.pcitree.proofs.surely.pcitree_surely.Goals as goal
+use Rattle.program_tests.proofs.SureLemmas.{never_rose, answered_or_no_memory}
+use Rattle.program_tests.proofs.surely.pcitree_surely.Goals as goal
 
 pub returns-clause-reads : goal.returns-clause-reads
 returns-clause-reads g c = λ is. never_rose (c.pcitree.ensures.read_fault is)

@@ -1,7 +1,9 @@
-//! What a log tells, where it is refused: found again from the log alone.
-use crate::drafting::{Told, tell};
-use crate::reading::{TreeLog, read_tree_log};
+//! What a log tells, where `observe` refuses it: found again from the log alone, for the messages.
+//! Nothing is claimed of it.
+#![tactic(auto)]
+
 use board_tree::Tree;
+use command_observe::{LogTold, TreeLog, read_tree_log, tell};
 use observe_found::Times;
 use observe_order::Ordered;
 use observe_told::{ActsTold, Log, RefusedLog, Retold, Unfound};
@@ -61,8 +63,8 @@ fn retold(alloc: Global, read: TreeLog) -> Result<Retelling, NoMemory> {
 }
 
 /// The log with the acts that it tells.
-fn with_acts(alloc: Global, log: Log, told: Told) -> Retelling {
-    let Told {
+fn with_acts(alloc: Global, log: Log, told: LogTold) -> Retelling {
+    let LogTold {
         tree,
         unseen,
         ordered,
