@@ -137,7 +137,8 @@ limited-ok : (step : Result Draft LineFault) (next : Draft) → limited step ≡
 limited-ok (Ok draft) next is = cc
 limited-ok (Err fault) next is = absurd (cc)
 
-then_on : (R : Draft → Type 0) (step : Result Draft DeviceFault) (later : Draft → Result Draft DeviceFault) → ((next : Draft) → step ≡ Ok next → OnDraft R (later next)) → OnDraft R (then_adds step later)
+then_on : (R : Draft → Type 0) (step : Result Draft DeviceFault) (later : Draft → Result Draft DeviceFault)
+    → ((next : Draft) → step ≡ Ok next → OnDraft R (later next)) → OnDraft R (then_adds step later)
 then_on R (Ok draft) later each = each draft refl
 then_on R (Err fault) later each = tt
 

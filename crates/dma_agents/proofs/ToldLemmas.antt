@@ -62,11 +62,14 @@ words_said line said is =
 
 -- All lines.
 
-then_told : (P : Making → Type 0) (step : Result Making DeviceFault) (number : ℕ) (later : Making → Result Making MakeFault) → ((making : Making) → OnMaking P (later making)) → OnMaking P (then_lines step number later)
+then_told : (P : Making → Type 0) (step : Result Making DeviceFault) (number : ℕ) (later : Making → Result Making MakeFault)
+    → ((making : Making) → OnMaking P (later making)) → OnMaking P (then_lines step number later)
 then_told P (Ok making) number later each = each making
 then_told P (Err fault) number later each = tt
 
-then_kept : (P : Making → Type 0) (step : Result Making DeviceFault) (number : ℕ) (later : Making → Result Making MakeFault) → OnMaking P step → ((making : Making) → P making → OnMaking P (later making)) → OnMaking P (then_lines step number later)
+then_kept : (P : Making → Type 0) (step : Result Making DeviceFault) (number : ℕ) (later : Making → Result Making MakeFault)
+    → OnMaking P step → ((making : Making) → P making → OnMaking P (later making))
+    → OnMaking P (then_lines step number later)
 then_kept P (Ok making) number later holds each = each making holds
 then_kept P (Err fault) number later holds each = tt
 
@@ -74,7 +77,9 @@ then_kept P (Err fault) number later holds each = tt
 abbrev Rest : (Making → Type 0) → ℕ → List (List ℕ) → Type 0
 Rest P number lines = (making : Making) → OnMaking P (lines_read making number lines)
 
-here_or_later : (P : Making → Type 0) (said : DeviceLine) → LinesKeep P → Starts P said → (making : Making) (number : ℕ) (line : List ℕ) (lines : List (List ℕ)) → (Among (λ y. y ≡ said) (said_in lines) → Rest P (number + 1) lines)
+here_or_later : (P : Making → Type 0) (said : DeviceLine) → LinesKeep P → Starts P said
+    → (making : Making) (number : ℕ) (line : List ℕ) (lines : List (List ℕ))
+    → (Among (λ y. y ≡ said) (said_in lines) → Rest P (number + 1) lines)
     → (here : Result (Option DeviceLine) DeviceFault) → said_by line ≡ here → Among (λ y. y ≡ said) (one_said here ++ said_in lines) → OnMaking P (then_lines (by_said making number here) number (λ next. lines_read next (number + 1) lines))
 here_or_later P said keep starts making number line lines rest (Ok None) is among = rest among making
 here_or_later P said keep starts making number line lines rest (Ok (Some first)) is among =
@@ -89,7 +94,9 @@ here_or_later P said keep starts making number line lines rest (Ok (Some first))
     ]
 here_or_later P said keep starts making number line lines rest (Err fault) is among = tt
 
-lines_told : (P : Making → Type 0) (said : DeviceLine) → LinesKeep P → Starts P said → (making : Making) (number : ℕ) (lines : List (List ℕ)) → Among (λ y. y ≡ said) (said_in lines) → OnMaking P (lines_read making number lines)
+lines_told : (P : Making → Type 0) (said : DeviceLine) → LinesKeep P → Starts P said
+    → (making : Making) (number : ℕ) (lines : List (List ℕ)) → Among (λ y. y ≡ said) (said_in lines)
+    → OnMaking P (lines_read making number lines)
 lines_told P said keep starts making number [] among = absurd among
 lines_told P said keep starts making number (line ∷ lines) among =
     let later : Making → Result Making MakeFault = λ next. lines_read next (number + 1) lines in
@@ -120,24 +127,32 @@ making_told : (P : Making → Type 0) (R : Made → Type 0) → Gives P R → (f
 making_told P R gives first (Ok making) holds = flags_told R (board_of making.sheet) first (unclear (board_of making.sheet) making.waits) (gives making first holds)
 making_told P R gives first (Err fault) holds = tt
 
-draft_told : (P : Making → Type 0) (R : Made → Type 0) (said : DeviceLine) → LinesKeep P → Starts P said → Gives P R → (number : ℕ) (lines : List (List ℕ)) (draft : Result (Option Draft) (ℕ × LineFault)) → Among (λ y. y ≡ said) (said_in lines) → OnMade R (by_board number lines draft)
+draft_told : (P : Making → Type 0) (R : Made → Type 0) (said : DeviceLine) → LinesKeep P → Starts P said
+    → Gives P R → (number : ℕ) (lines : List (List ℕ)) (draft : Result (Option Draft) (ℕ × LineFault))
+    → Among (λ y. y ≡ said) (said_in lines) → OnMade R (by_board number lines draft)
 draft_told P R said keep starts gives number lines (Ok None) among = tt
 draft_told P R said keep starts gives number lines (Ok (Some draft)) among =
     making_told P R gives (length (board_of draft).masters) _ (lines_told P said keep starts (record { sheet = draft; owner = Nobody; waits = [] }) number lines among)
 draft_told P R said keep starts gives number lines (Err fault) among = tt
 
-parts_told : (P : Making → Type 0) (R : Made → Type 0) (said : DeviceLine) → LinesKeep P → Starts P said → Gives P R → (past : ℕ) (parts : Option (List (List ℕ) × List (List ℕ))) → Among (λ y. y ≡ said) (said_behind parts) → OnMade R (by_parts past parts)
+parts_told : (P : Making → Type 0) (R : Made → Type 0) (said : DeviceLine) → LinesKeep P → Starts P said
+    → Gives P R → (past : ℕ) (parts : Option (List (List ℕ) × List (List ℕ)))
+    → Among (λ y. y ≡ said) (said_behind parts) → OnMade R (by_parts past parts)
 parts_told P R said keep starts gives past None among = tt
 parts_told P R said keep starts gives past (Some parts) among = draft_told P R said keep starts gives (length parts.0 + 3) parts.1 (read_lines None 1 parts.0) among
 
-first_told : (P : Making → Type 0) (R : Made → Type 0) (said : DeviceLine) → LinesKeep P → Starts P said → Gives P R → (lines : List (List ℕ)) → Among (λ y. y ≡ said) (said_behind (until_devices (drop 1 lines))) → OnMade R (by_first lines)
+first_told : (P : Making → Type 0) (R : Made → Type 0) (said : DeviceLine) → LinesKeep P → Starts P said
+    → Gives P R → (lines : List (List ℕ)) → Among (λ y. y ≡ said) (said_behind (until_devices (drop 1 lines)))
+    → OnMade R (by_first lines)
 first_told P R said keep starts gives [] among = tt
 first_told P R said keep starts gives (line ∷ lines) among =
     let Q : Bool → Type 0 = λ b. OnMade R (cond b (by_parts (length lines + 2) (until_devices lines)) (Err (OfLine 1 Misshapen))) in
     elim (is_line (codes "pcidevices" ∷ codes "1" ∷ []) line) as Q [ true ↦ parts_told P R said keep starts gives (length lines + 2) (until_devices lines) among | false ↦ tt ]
 
 -- what a line starts, and each line keeps, holds of the board that is made
-pub text_told : (P : Making → Type 0) (R : Made → Type 0) (said : DeviceLine) → LinesKeep P → Starts P said → Gives P R → (text : List ℕ) (made : Made) → made_read text ≡ Ok made → Contains (device_lines text) said → R made
+pub text_told : (P : Making → Type 0) (R : Made → Type 0) (said : DeviceLine) → LinesKeep P → Starts P said
+    → Gives P R → (text : List ℕ) (made : Made) → made_read text ≡ Ok made → Contains (device_lines text) said
+    → R made
 text_told P R said keep starts gives text made is there =
     subst (OnMade R) is (first_told P R said keep starts gives (lines_of text) (contained (device_lines text) said there))
 
@@ -147,7 +162,9 @@ text_told P R said keep starts gives text made is there =
 abbrev Passes : (ℕ → ℕ → Bool) → Flag → Making → Type 0
 Passes clear flag making = list_all (wait_clear clear) making.waits ≡ true → clear flag.address flag.value ≡ true
 
-with_waits : (clear : ℕ → ℕ → Bool) (flag : Flag) (making : Making) (number : ℕ) (line : DeviceLine) (step : Result Draft DeviceFault) → (list_all (wait_clear clear) (waits_behind making.waits number (flag_of line)) ≡ true → clear flag.address flag.value ≡ true) → OnMaking (Passes clear flag) (with_draft making number line step)
+with_waits : (clear : ℕ → ℕ → Bool) (flag : Flag) (making : Making) (number : ℕ) (line : DeviceLine) (step : Result Draft DeviceFault)
+    → (list_all (wait_clear clear) (waits_behind making.waits number (flag_of line)) ≡ true → clear flag.address flag.value ≡ true)
+    → OnMaking (Passes clear flag) (with_draft making number line step)
 with_waits clear flag making number line (Ok draft) each = each
 with_waits clear flag making number line (Err fault) each = tt
 
@@ -162,15 +179,21 @@ flag_starts clear flag said is = λ making number words _.
     with_waits clear flag making number said (line_added making.owner making.sheet said) (λ all.
     subst (λ found. flag_clear clear found ≡ true) is (waits_clear clear making.waits number (flag_of said) all).1)
 
-tests_apart : (flag : Flag) (step : Result Making DeviceFault) → ((clear : ℕ → ℕ → Bool) → OnMaking (Passes clear flag) step) → OnMaking (λ making. (clear : ℕ → ℕ → Bool) → Passes clear flag making) step
+tests_apart : (flag : Flag) (step : Result Making DeviceFault)
+    → ((clear : ℕ → ℕ → Bool) → OnMaking (Passes clear flag) step)
+    → OnMaking (λ making. (clear : ℕ → ℕ → Bool) → Passes clear flag making) step
 tests_apart flag (Ok making) each = each
 tests_apart flag (Err fault) each = tt
 
-all_tests : (flag : Flag) (making : Making) (number : ℕ) (line : DeviceLine) → ((clear : ℕ → ℕ → Bool) → OnMaking (Passes clear flag) (with_draft making number line (line_added making.owner making.sheet line))) → OnMaking (λ m. (clear : ℕ → ℕ → Bool) → Passes clear flag m) (with_draft making number line (line_added making.owner making.sheet line))
+all_tests : (flag : Flag) (making : Making) (number : ℕ) (line : DeviceLine)
+    → ((clear : ℕ → ℕ → Bool) → OnMaking (Passes clear flag) (with_draft making number line (line_added making.owner making.sheet line)))
+    → OnMaking (λ m. (clear : ℕ → ℕ → Bool) → Passes clear flag m) (with_draft making number line (line_added making.owner making.sheet line))
 all_tests flag making number line each = tests_apart flag (with_draft making number line (line_added making.owner making.sheet line)) each
 
 -- each flag that a line waits for is clear
-pub waited_clear : (text : List ℕ) (made : Made) (said : DeviceLine) (flag : Flag) → made_read text ≡ Ok made → Contains (device_lines text) said → flag_of said ≡ Some flag → is_clear made.board flag.address flag.value ≡ true
+pub waited_clear : (text : List ℕ) (made : Made) (said : DeviceLine) (flag : Flag) → made_read text ≡ Ok made
+    → Contains (device_lines text) said → flag_of said ≡ Some flag
+    → is_clear made.board flag.address flag.value ≡ true
 waited_clear text made said flag is there waits =
     let P : Making → Type 0 = λ making. (clear : ℕ → ℕ → Bool) → Passes clear flag making in
     let keep : LinesKeep P = record { line = λ making number words line form holds. all_tests flag making number line (λ clear. (flag_keeps clear flag).line making number words line form (holds clear)) } in

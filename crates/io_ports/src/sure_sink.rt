@@ -5,6 +5,7 @@ use std::marker::Model;
 
 /// A sink that never fails. It takes each piece whole, keeps the number of bytes alone and so
 /// takes no memory, and tells no bytes.
+/// No word of the program calls it.
 #[derive(Debug, Drop)]
 pub struct SureSink {
     count: u64,

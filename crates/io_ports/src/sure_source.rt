@@ -6,6 +6,7 @@ use std::alloc::Global;
 use std::marker::Model;
 
 /// A source of bytes in memory that never fails. Each call gives as much as it can.
+/// No word of the program calls it.
 #[derive(Debug, Drop)]
 pub struct SureSource {
     bytes: Bytes,
