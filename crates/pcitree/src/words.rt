@@ -49,7 +49,8 @@ fn names_file(word: &[u8]) -> bool
 /// How many words behind another, from the first on, are as the parts have them.
 fn fitting(parts: &[Part], before: &str, words: &[String]) -> u32
     requires { length parts.now ≤ 4 }
-    ensures count { result ≡ fitting (map shape_of parts.now) before.now (map string_bytes words.now) }
+    ensures count { result
+        ≡ fitting (map shape_of parts.now) before.now (map string_bytes words.now) }
     ensures bound { result ≤ length parts.now }
 {
     match parts {
@@ -88,7 +89,8 @@ pub(crate) fn number_of<'a>(form: Form, words: &Called<'a>) -> Option<&'a str>
 
 /// The number among the words, where one of the parts is a number.
 fn number_in<'a>(parts: &[Part], words: &'a [String]) -> Option<&'a str>
-    ensures { option_map (λ number. number.now) result ≡ number_in (map shape_of parts.now) (map string_bytes words.now) }
+    ensures { option_map (λ number. number.now) result
+        ≡ number_in (map shape_of parts.now) (map string_bytes words.now) }
 {
     match parts {
         [] => None,

@@ -1,5 +1,5 @@
-//! What stands at which place of a line, by its first word; called as `help board` and `help device`
-//! call it.
+//! What stands at which place of a line, by its first word; called as `help board` and `help
+//! device` call it.
 use crate::texts::places::{first_word, is_among, word_at};
 use crate::texts::wanted::{Kind, Wanted};
 use board_statements::is_word;
@@ -143,9 +143,10 @@ static DEVICE_FORMS: [Form; 7] = [
     ("word", &[PORT, VALUE], More::Nothing),
 ];
 
-/// What may be left out of the line of a bridge, in its order: its first word, and what stands behind.
+/// What may be left out of the line of a bridge: its first word, and what stands behind.
 type Choice = (&'static str, &'static [Wanted]);
 
+/// In their order.
 static OPTIONS: [Choice; 6] = [
     ("mem", &[BASE, LIMIT]),
     ("pref", &[LONG_BASE, LONG_LIMIT]),
@@ -217,7 +218,7 @@ pub(super) fn option_at(line: &[u8], place: usize) -> Option<&'static str> {
     Some(option.0)
 }
 
-/// The option that a place of a line belongs to, whose options begin at `from`, and its place there.
+/// The option that a place of a line belongs to, whose options begin at `from`; and its place there.
 fn option_from(line: &[u8], from: usize, place: usize) -> Option<(&'static Choice, usize)> {
     let mut at = from;
     for _ in 0..OPTIONS.len() {

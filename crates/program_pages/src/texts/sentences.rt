@@ -140,8 +140,8 @@ pub(super) fn sentence(case: &Case, fault: LineFault) -> Option<&'static str> {
 /// The place of the ninth word that a write brings.
 const NINTH: usize = 10;
 
-/// What is said of a line before its first word is looked at: that it has none, or what stands where
-/// it is at fault.
+/// What is said of a line before its first word is looked at: that it has none, or what stands
+/// where it is at fault.
 fn special(case: &Case, fault: LineFault) -> Option<&'static str> {
     let (line, place) = (case.line, case.place());
     match fault {
