@@ -1,5 +1,5 @@
-//! What a message says of a text that is refused: which line of it, which word, and why; and what it
-//! says of a length or of a port. All of it is found by the program's own readers. Nothing is
+//! What a message says of a text that is refused: which line of it, which word, and why; and what
+//! it says of a length or of a port. All of it is found by the program's own readers. Nothing is
 //! claimed of what a sentence says.
 #![tactic(auto)]
 

@@ -9,8 +9,8 @@ use program_words::{Called, Form};
 use std::alloc::Global;
 use std::thread::Threads;
 
-/// The text that answers an input, for words of this form. In `run` the gate is told of the work of
-/// each bus.
+/// The text that answers an input, for words of this form. The gate is told of the work of each
+/// bus in `run`.
 pub(crate) fn answer<R: Threads + Sync, G: Gate + Sync>(
     rt: &R,
     alloc: Global,
@@ -56,7 +56,7 @@ pub(crate) fn answer<R: Threads + Sync, G: Gate + Sync>(
     }
 }
 
-/// The same of an input that was read for it, which is let go as soon as its form needs it no more.
+/// The same of an input that was read for it, and is let go as soon as the form can do so.
 pub(crate) fn answer_owned<R: Threads + Sync, G: Gate + Sync>(
     rt: &R,
     alloc: Global,

@@ -1,9 +1,7 @@
 ghost use Rattle.std.specs.Prelude.{◌≡◌, ◌≤◌, ◌<◌, ◌^◌, IfSome, map, length, position, string_bytes};
 ghost use Rattle.std.specs.Option.{option_map};
 ghost use Rattle.program_words.specs.Shapes.{shape_of, input_limit};
-ghost use Rattle.pcitree.specs.Words.{names_file, fits, fitting, is_of, form_of, misfit, is_file};
-ghost use Rattle.pcitree.specs.Words.{is_number, file_in, file_place, limit_by, rows_in};
-ghost use Rattle.pcitree.specs.Words.{operation_in, read_in, write_in};
+ghost use Rattle.pcitree.specs.Words.{names_file, fits, fitting, is_of, form_of, misfit, is_file, is_number, file_in, file_place, limit_by, rows_in, operation_in, read_in, write_in};
 ghost use Rattle.pcitree.specs.Given.{number_in, number_of};
 
 use command_runs::names_rounds;
@@ -51,8 +49,8 @@ fn names_file(word: &[u8]) -> bool
 /// How many words behind another, from the first on, are as the parts have them.
 fn fitting(parts: &[Part], before: &str, words: &[String]) -> u32
     requires { length parts.now ≤ 4 }
-    ensures count { result ≡
-        fitting (map shape_of parts.now) before.now (map string_bytes words.now) }
+    ensures count { result
+        ≡ fitting (map shape_of parts.now) before.now (map string_bytes words.now) }
     ensures bound { result ≤ length parts.now }
 {
     match parts {
@@ -91,8 +89,8 @@ pub(crate) fn number_of<'a>(form: Form, words: &Called<'a>) -> Option<&'a str>
 
 /// The number among the words, where one of the parts is a number.
 fn number_in<'a>(parts: &[Part], words: &'a [String]) -> Option<&'a str>
-    ensures { option_map (λ number. number.now) result ≡
-        number_in (map shape_of parts.now) (map string_bytes words.now) }
+    ensures { option_map (λ number. number.now) result
+        ≡ number_in (map shape_of parts.now) (map string_bytes words.now) }
 {
     match parts {
         [] => None,

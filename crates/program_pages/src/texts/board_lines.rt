@@ -3,7 +3,7 @@ use crate::texts::forms::wanted_at;
 use crate::texts::places::{count_words, word_at};
 use crate::texts::sentences::sentence;
 use crate::texts::text::Text;
-use crate::texts::wanted::{Kind, Wanted};
+use crate::texts::wanted::{WantedWord, WordKind};
 use board_statements::{first_line, has_words};
 use text_faults::LineFault;
 
@@ -40,7 +40,7 @@ pub fn text_of_line(case: &Case, fault: LineFault) -> Option<Text> {
             wanted_at(line, place)?.ill_formed(word_at(line, place)?, is_wide(before))
         }
         LineFault::WrongWord if place > 0 => match wanted_at(line, place)? {
-            Wanted(word, Kind::Fixed) => Some(Text::Here(word)),
+            WantedWord(word, WordKind::Fixed) => Some(Text::Here(word)),
             _ => None,
         },
         _ => Some(Text::Plain(sentence(case, fault)?)),

@@ -1,14 +1,14 @@
 use crate::texts::forms::{is_of_devices, wanted_of_device};
 use crate::texts::places::{byte_at, count_words, first_word, word_at};
-use crate::texts::sentences::{NOTHING_BEHIND, Row, said};
+use crate::texts::sentences::{NOTHING_BEHIND, Sentence, said};
 use crate::texts::text::Text;
-use crate::texts::wanted::{Kind, Wanted};
+use crate::texts::wanted::{WantedWord, WordKind};
 use crate::{Spot, line_at};
 use board_statements::{Words, has_words, is_word};
 use board_text::check_line;
 
 /// The first line is that of another text.
-static NO_FIRST_LINE: [Row; 2] = [
+static NO_FIRST_LINE: [Sentence; 2] = [
     (
         "pciboard",
         "this is a board, and a device text is wanted: pcitree run FILE runs it",
@@ -20,7 +20,7 @@ static NO_FIRST_LINE: [Row; 2] = [
 ];
 
 /// A line that has the form of its first word stands behind another than it may.
-static MISPLACED: [Row; 6] = [
+static MISPLACED: [Sentence; 6] = [
     ("look", "look stands behind a handler line"),
     ("put", "put stands behind a device line"),
     ("get", "get stands behind a device line"),
@@ -104,13 +104,13 @@ fn misfit_at(line: &[u8], place: usize) -> Option<(Text, Spot)> {
     }
 }
 
-fn misfit(line: &[u8], place: usize, wanted: Wanted, word: &[u8]) -> Option<Text> {
+fn misfit(line: &[u8], place: usize, wanted: WantedWord, word: &[u8]) -> Option<Text> {
     let (holds, text) = match wanted.1 {
-        Kind::Vectors => (is_vector_count(word), "VECTORS is 1, 2, 4, 8, 16 or 32"),
-        Kind::Vector => (is_below(line, place), "V is below VECTORS"),
-        Kind::Seed => match Words::new(word).hex() {
+        WordKind::Vectors => (is_vector_count(word), "VECTORS is 1, 2, 4, 8, 16 or 32"),
+        WordKind::Vector => (is_below(line, place), "V is below VECTORS"),
+        WordKind::Seed => match Words::new(word).hex() {
             Ok(number) => (number <= 0xff, "SEED is at most ff"),
-            Err(_) => return Wanted("SEED", Kind::Hex(8)).misfit(word),
+            Err(_) => return WantedWord("SEED", WordKind::Hex(8)).misfit(word),
         },
         _ => return wanted.misfit(word),
     };

@@ -1,85 +1,85 @@
-//! What stands at which place of a line, by its first word; called as `help board` and `help device`
-//! call it.
+//! What stands at which place of a line, by its first word; called as `help board` and `help
+//! device` call it.
 use crate::texts::places::{first_word, is_among, word_at};
-use crate::texts::wanted::{Kind, Wanted};
+use crate::texts::wanted::{WantedWord, WordKind};
 use board_statements::is_word;
 
-const NAME: Wanted = Wanted("NAME", Kind::Name);
+const NAME: WantedWord = WantedWord("NAME", WordKind::Name);
 
-const TARGET: Wanted = Wanted("TARGET", Kind::Name);
+const TARGET: WantedWord = WantedWord("TARGET", WordKind::Name);
 
-const ON: Wanted = Wanted("on", Kind::Fixed);
+const ON: WantedWord = WantedWord("on", WordKind::Fixed);
 
-const DEV_IS: Wanted = Wanted("dev", Kind::Fixed);
+const DEV_IS: WantedWord = WantedWord("dev", WordKind::Fixed);
 
-const LAST_IS: Wanted = Wanted("last", Kind::Fixed);
+const LAST_IS: WantedWord = WantedWord("last", WordKind::Fixed);
 
-const BELL_IS: Wanted = Wanted("bell", Kind::Fixed);
+const BELL_IS: WantedWord = WantedWord("bell", WordKind::Fixed);
 
-const WAIT_IS: Wanted = Wanted("wait", Kind::Fixed);
+const WAIT_IS: WantedWord = WantedWord("wait", WordKind::Fixed);
 
-const SPACE: Wanted = Wanted("mem or io", Kind::Fixed);
+const SPACE: WantedWord = WantedWord("mem or io", WordKind::Fixed);
 
-const DIRECTION: Wanted = Wanted("down or up", Kind::Fixed);
+const DIRECTION: WantedWord = WantedWord("down or up", WordKind::Fixed);
 
-const BUS: Wanted = Wanted("BUS", Kind::Decimal(0, 255));
+const BUS: WantedWord = WantedWord("BUS", WordKind::Decimal(0, 255));
 
 /// The bus of a bridge, which is not bus 0.
-const BUS_BEHIND: Wanted = Wanted("BUS", Kind::Decimal(1, 255));
+const BUS_BEHIND: WantedWord = WantedWord("BUS", WordKind::Decimal(1, 255));
 
-const DEV: Wanted = Wanted("DEV", Kind::Decimal(0, 31));
+const DEV: WantedWord = WantedWord("DEV", WordKind::Decimal(0, 31));
 
-const TOKENS: Wanted = Wanted("COUNT", Kind::Decimal(0, 1_000_000));
+const TOKENS: WantedWord = WantedWord("COUNT", WordKind::Decimal(0, 1_000_000));
 
-const COUNT: Wanted = Wanted("COUNT", Kind::Decimal(1, 8));
+const COUNT: WantedWord = WantedWord("COUNT", WordKind::Decimal(1, 8));
 
-const MODE: Wanted = Wanted("MODE", Kind::Decimal(0, 1));
+const MODE: WantedWord = WantedWord("MODE", WordKind::Decimal(0, 1));
 
-const PLANNED: Wanted = Wanted("K", Kind::Decimal(1, 1_000_000));
+const PLANNED: WantedWord = WantedWord("K", WordKind::Decimal(1, 1_000_000));
 
-const REGISTER: Wanted = Wanted("REG", Kind::Decimal(0, 63));
+const REGISTER: WantedWord = WantedWord("REG", WordKind::Decimal(0, 63));
 
-const TRIES: Wanted = Wanted("TRIES", Kind::Decimal(1, 65_536));
+const TRIES: WantedWord = WantedWord("TRIES", WordKind::Decimal(1, 65_536));
 
-const LENGTH: Wanted = Wanted("LENGTH", Kind::Decimal(1, 4096));
+const LENGTH: WantedWord = WantedWord("LENGTH", WordKind::Decimal(1, 4096));
 
-const VENDOR: Wanted = Wanted("VENDOR", Kind::Hex(4));
+const VENDOR: WantedWord = WantedWord("VENDOR", WordKind::Hex(4));
 
-const DEVICE: Wanted = Wanted("DEVICE", Kind::Hex(4));
+const DEVICE: WantedWord = WantedWord("DEVICE", WordKind::Hex(4));
 
-const MESSAGE: Wanted = Wanted("DATA", Kind::Hex(4));
+const MESSAGE: WantedWord = WantedWord("DATA", WordKind::Hex(4));
 
-const PORT: Wanted = Wanted("ADDR", Kind::Hex(8));
+const PORT: WantedWord = WantedWord("ADDR", WordKind::Hex(8));
 
-const MASK: Wanted = Wanted("MASK", Kind::Hex(8));
+const MASK: WantedWord = WantedWord("MASK", WordKind::Hex(8));
 
-const VALUE: Wanted = Wanted("VALUE", Kind::Hex(8));
+const VALUE: WantedWord = WantedWord("VALUE", WordKind::Hex(8));
 
-const BASE: Wanted = Wanted("BASE", Kind::Hex(8));
+const BASE: WantedWord = WantedWord("BASE", WordKind::Hex(8));
 
-const LIMIT: Wanted = Wanted("LIMIT", Kind::Hex(8));
+const LIMIT: WantedWord = WantedWord("LIMIT", WordKind::Hex(8));
 
-const ADDRESS: Wanted = Wanted("ADDR", Kind::Long);
+const ADDRESS: WantedWord = WantedWord("ADDR", WordKind::Long);
 
-const LONG_BASE: Wanted = Wanted("BASE", Kind::Long);
+const LONG_BASE: WantedWord = WantedWord("BASE", WordKind::Long);
 
-const LONG_LIMIT: Wanted = Wanted("LIMIT", Kind::Long);
+const LONG_LIMIT: WantedWord = WantedWord("LIMIT", WordKind::Long);
 
-const ADDRESS_THERE: Wanted = Wanted("ADDR", Kind::InSpace);
+const ADDRESS_THERE: WantedWord = WantedWord("ADDR", WordKind::InSpace);
 
-const BASE_THERE: Wanted = Wanted("BASE", Kind::InSpace);
+const BASE_THERE: WantedWord = WantedWord("BASE", WordKind::InSpace);
 
-const SIZE_THERE: Wanted = Wanted("SIZE", Kind::InSpace);
+const SIZE_THERE: WantedWord = WantedWord("SIZE", WordKind::InSpace);
 
-const DATA: Wanted = Wanted("WORD", Kind::Data);
+const DATA: WantedWord = WantedWord("WORD", WordKind::Data);
 
-const BYTES: Wanted = Wanted("BYTES", Kind::Bytes);
+const BYTES: WantedWord = WantedWord("BYTES", WordKind::Bytes);
 
-const VECTORS: Wanted = Wanted("VECTORS", Kind::Vectors);
+const VECTORS: WantedWord = WantedWord("VECTORS", WordKind::Vectors);
 
-const VECTOR: Wanted = Wanted("V", Kind::Vector);
+const VECTOR: WantedWord = WantedWord("V", WordKind::Vector);
 
-const SEED: Wanted = Wanted("SEED", Kind::Seed);
+const SEED: WantedWord = WantedWord("SEED", WordKind::Seed);
 
 /// What may stand behind the words of a form.
 #[derive(Clone, Copy)]
@@ -92,10 +92,10 @@ enum More {
 }
 
 /// The first words of the lines of a form, what their further words are, and what may stand behind.
-type Form = (&'static str, &'static [Wanted], More);
+type WordsOfLine = (&'static str, &'static [WantedWord], More);
 
 /// The lines of a board.
-static BOARD_FORMS: [Form; 18] = [
+static BOARD_FORMS: [WordsOfLine; 18] = [
     (
         "bridge",
         &[BUS_BEHIND, ON, BUS, DEV_IS, DEV, LAST_IS, BUS],
@@ -125,7 +125,7 @@ static BOARD_FORMS: [Form; 18] = [
 ];
 
 /// The lines of devices.
-static DEVICE_FORMS: [Form; 7] = [
+static DEVICE_FORMS: [WordsOfLine; 7] = [
     (
         "device",
         &[NAME, ON, TARGET, BELL_IS, PORT, VALUE, TRIES],
@@ -143,9 +143,10 @@ static DEVICE_FORMS: [Form; 7] = [
     ("word", &[PORT, VALUE], More::Nothing),
 ];
 
-/// What may be left out of the line of a bridge, in its order: its first word, and what stands behind.
-type Choice = (&'static str, &'static [Wanted]);
+/// What may be left out of the line of a bridge: its first word, and what stands behind.
+type Choice = (&'static str, &'static [WantedWord]);
 
+/// In their order.
 static OPTIONS: [Choice; 6] = [
     ("mem", &[BASE, LIMIT]),
     ("pref", &[LONG_BASE, LONG_LIMIT]),
@@ -156,12 +157,12 @@ static OPTIONS: [Choice; 6] = [
 ];
 
 /// What the word of this place, from 1, of a line of a board is read as, if one may stand there.
-pub(super) fn wanted_at(line: &[u8], place: usize) -> Option<Wanted> {
+pub(super) fn wanted_at(line: &[u8], place: usize) -> Option<WantedWord> {
     wanted_in(form_in(&BOARD_FORMS, line)?, line, place)
 }
 
 /// The same of a line of devices.
-pub(super) fn wanted_of_device(line: &[u8], place: usize) -> Option<Wanted> {
+pub(super) fn wanted_of_device(line: &[u8], place: usize) -> Option<WantedWord> {
     wanted_in(form_in(&DEVICE_FORMS, line)?, line, place)
 }
 
@@ -171,7 +172,7 @@ pub(super) fn is_of_devices(line: &[u8]) -> bool {
 }
 
 /// The form of a line, by its first word.
-fn form_in(forms: &'static [Form], line: &[u8]) -> Option<&'static Form> {
+fn form_in(forms: &'static [WordsOfLine], line: &[u8]) -> Option<&'static WordsOfLine> {
     let first = first_word(line);
     for form in forms {
         if is_among(first, form.0) {
@@ -181,7 +182,7 @@ fn form_in(forms: &'static [Form], line: &[u8]) -> Option<&'static Form> {
     None
 }
 
-fn wanted_in(form: &Form, line: &[u8], place: usize) -> Option<Wanted> {
+fn wanted_in(form: &WordsOfLine, line: &[u8], place: usize) -> Option<WantedWord> {
     match (form.1.get(place.saturating_sub(1)), form.2) {
         (Some(wanted), _) => Some(in_space(*wanted, line)),
         (None, More::Nothing) => None,
@@ -194,16 +195,16 @@ fn wanted_in(form: &Form, line: &[u8], place: usize) -> Option<Wanted> {
 }
 
 /// A number of the space that the second word of the line names.
-fn in_space(wanted: Wanted, line: &[u8]) -> Wanted {
+fn in_space(wanted: WantedWord, line: &[u8]) -> WantedWord {
     match (wanted, word_at(line, 1)) {
-        (Wanted(word, Kind::InSpace), Some(b"mem")) => Wanted(word, Kind::Long),
-        (Wanted(word, Kind::InSpace), _) => Wanted(word, Kind::Hex(8)),
+        (WantedWord(word, WordKind::InSpace), Some(b"mem")) => WantedWord(word, WordKind::Long),
+        (WantedWord(word, WordKind::InSpace), _) => WantedWord(word, WordKind::Hex(8)),
         _ => wanted,
     }
 }
 
 /// The place behind the words of a form.
-fn behind(form: &Form) -> usize {
+fn behind(form: &WordsOfLine) -> usize {
     form.1.len().saturating_add(1)
 }
 
@@ -217,7 +218,7 @@ pub(super) fn option_at(line: &[u8], place: usize) -> Option<&'static str> {
     Some(option.0)
 }
 
-/// The option that a place of a line belongs to, whose options begin at `from`, and its place there.
+/// The option that a place of a line belongs to, whose options begin at `from`; and its place there.
 fn option_from(line: &[u8], from: usize, place: usize) -> Option<(&'static Choice, usize)> {
     let mut at = from;
     for _ in 0..OPTIONS.len() {

@@ -6,7 +6,7 @@ use crate::texts::places::{first_word, is_among, word_at};
 use text_faults::LineFault;
 
 /// The first words of some lines, and what is said of these.
-pub(super) type Row = (&'static str, &'static str);
+pub(super) type Sentence = (&'static str, &'static str);
 
 /// What is said of a carriage return at the end of a line.
 pub(super) const CARRIAGE_RETURN: &str =
@@ -18,7 +18,7 @@ pub(super) const BYTE_ORDER_MARK: &str = "a byte order mark: the file begins wit
 /// What is said of a word behind the last that a line may have.
 pub(super) const NOTHING_BEHIND: &str = "nothing stands behind the words of this line";
 
-static NO_FIRST_LINE: [Row; 2] = [
+static NO_FIRST_LINE: [Sentence; 2] = [
     (
         "pcitrace",
         "this is a trace, and a board is wanted: pcitree check FILE judges it",
@@ -29,7 +29,7 @@ static NO_FIRST_LINE: [Row; 2] = [
     ),
 ];
 
-static WRONG_WORD: [Row; 2] = [
+static WRONG_WORD: [Sentence; 2] = [
     ("pciboard", "pciboard 1 stands once, at the start"),
     (
         "device handler devices",
@@ -37,7 +37,7 @@ static WRONG_WORD: [Row; 2] = [
     ),
 ];
 
-static TOO_MANY: [Row; 2] = [
+static TOO_MANY: [Sentence; 2] = [
     (
         "bridge",
         "options stand once each, in this order: mem pref io posted delayed abort",
@@ -49,12 +49,12 @@ static TOO_MANY: [Row; 2] = [
 ];
 
 /// Of lines whose second word is `io`.
-static UNALIGNED_PORTS: [Row; 1] = [(
+static UNALIGNED_PORTS: [Sentence; 1] = [(
     "range abort",
     "an I/O range is a base and a size, both multiples of 4, the size not 0",
 )];
 
-static UNALIGNED: [Row; 3] = [
+static UNALIGNED: [Sentence; 3] = [
     (
         "bridge header",
         "a memory window is a base and a limit: the base ends in 00000, the limit in fffff",
@@ -66,12 +66,12 @@ static UNALIGNED: [Row; 3] = [
     ("word", "the address of an opening word is a multiple of 4"),
 ];
 
-static NO_OWNER: [Row; 1] = [(
+static NO_OWNER: [Sentence; 1] = [(
     "id stall burst range abort word",
     "this line says more of a target, and stands behind a target line",
 )];
 
-static OVER_LIMIT: [Row; 7] = [
+static OVER_LIMIT: [Sentence; 7] = [
     ("bridge header", "a board has at most 31 bridges"),
     ("target master", "a bus has at most 8 agents"),
     ("range", "a target has at most 6 base address registers"),
@@ -81,11 +81,11 @@ static OVER_LIMIT: [Row; 7] = [
     ("drop", "a board has at most 1,024 drops"),
 ];
 
-static PAST_ITS_SPACE: [Row; 1] = [("range abort", "the range ends behind the last address")];
+static PAST_ITS_SPACE: [Sentence; 1] = [("range abort", "the range ends behind the last address")];
 
 /// What is said of a line of a board with a fault, by its first word, and of all other lines; of a
 /// fault whose sentence is enough nothing.
-fn sentences_of(fault: LineFault) -> Option<(&'static [Row], &'static str)> {
+fn sentences_of(fault: LineFault) -> Option<(&'static [Sentence], &'static str)> {
     Some(match fault {
         LineFault::NoFirstLine => (
             &NO_FIRST_LINE,
@@ -109,7 +109,7 @@ fn sentences_of(fault: LineFault) -> Option<(&'static [Row], &'static str)> {
 }
 
 /// The sentence of the row that has the first word of a line.
-pub(super) fn said(rows: &[Row], line: &[u8]) -> Option<&'static str> {
+pub(super) fn said(rows: &[Sentence], line: &[u8]) -> Option<&'static str> {
     let first = first_word(line);
     for row in rows {
         if is_among(first, row.0) {
@@ -140,8 +140,8 @@ pub(super) fn sentence(case: &Case, fault: LineFault) -> Option<&'static str> {
 /// The place of the ninth word that a write brings.
 const NINTH: usize = 10;
 
-/// What is said of a line before its first word is looked at: that it has none, or what stands where
-/// it is at fault.
+/// What is said of a line before its first word is looked at: that it has none, or what stands
+/// where it is at fault.
 fn special(case: &Case, fault: LineFault) -> Option<&'static str> {
     let (line, place) = (case.line, case.place());
     match fault {

@@ -1,7 +1,7 @@
-use crate::texts::sentences::{BYTE_ORDER_MARK, CARRIAGE_RETURN, Row, is_end_of_line, said};
+use crate::texts::sentences::{BYTE_ORDER_MARK, CARRIAGE_RETURN, Sentence, is_end_of_line, said};
 
 /// The first line is that of another text.
-static NO_FIRST_LINE: [Row; 2] = [
+static NO_FIRST_LINE: [Sentence; 2] = [
     (
         "pciboard",
         "this is a board, and a trace is wanted: pcitree run FILE writes one",

@@ -4,11 +4,11 @@ use text_faults::LineFault;
 
 /// What a word is read as: what the help calls it (a fixed word is called as it is), and its kind.
 #[derive(Clone, Copy)]
-pub(super) struct Wanted(pub(super) &'static str, pub(super) Kind);
+pub(super) struct WantedWord(pub(super) &'static str, pub(super) WordKind);
 
 /// A kind of words.
 #[derive(Clone, Copy)]
-pub(super) enum Kind {
+pub(super) enum WordKind {
     /// Just this word, or one of these.
     Fixed,
     Name,
@@ -32,24 +32,24 @@ pub(super) enum Kind {
     Seed,
 }
 
-impl Wanted {
+impl WantedWord {
     /// What is said of a word that is none of its kind, in a text that may have addresses of 64
     /// bits or not.
     pub(super) fn ill_formed(self, found: &[u8], wide: bool) -> Option<Text> {
-        let Wanted(word, kind) = self;
+        let WantedWord(word, kind) = self;
         Some(match kind {
-            Kind::Hex(_) | Kind::Long | Kind::Data if has_prefix(found) => {
+            WordKind::Hex(_) | WordKind::Long | WordKind::Data if has_prefix(found) => {
                 Text::Plain("hexadecimal numbers are written without 0x")
             }
-            Kind::Hex(most) => Text::Digits { word, most },
-            Kind::Long if parts(found, b':').is_none() => Text::Digits { word, most: 8 },
-            Kind::Long => Text::Plain(text_of_long(wide)),
-            Kind::Decimal(low, high) => Text::Decimal { word, low, high },
-            Kind::Data => Text::Plain(
+            WordKind::Hex(most) => Text::Digits { word, most },
+            WordKind::Long if parts(found, b':').is_none() => Text::Digits { word, most: 8 },
+            WordKind::Long => Text::Plain(text_of_long(wide)),
+            WordKind::Decimal(low, high) => Text::Decimal { word, low, high },
+            WordKind::Data => Text::Plain(
                 "a word is 1 to 8 hexadecimal digits, and /E for the enabled bytes, E one digit",
             ),
-            Kind::Bytes => Text::Plain("a header is 128 hexadecimal digits"),
-            Kind::Name => {
+            WordKind::Bytes => Text::Plain("a header is 128 hexadecimal digits"),
+            WordKind::Name => {
                 Text::Plain("a name is 1 to 16 letters, digits, _ and -, a letter first")
             }
             _ => return None,
@@ -59,14 +59,14 @@ impl Wanted {
     /// What is said of a word of a device text that is not as it is wanted: of a name nothing,
     /// which has a fault of its own.
     pub(super) fn misfit(self, found: &[u8]) -> Option<Text> {
-        let Wanted(word, kind) = self;
+        let WantedWord(word, kind) = self;
         let mut words = Words::new(found);
         let fault = match kind {
-            Kind::Fixed if is_word(found, word.as_bytes()) => return None,
-            Kind::Fixed => return Some(Text::Here(word)),
-            Kind::Decimal(low, high) => words.decimal(low, high).err()?,
-            Kind::Hex(4) => words.hex_half().err()?,
-            Kind::Hex(_) => words.hex().err()?,
+            WordKind::Fixed if is_word(found, word.as_bytes()) => return None,
+            WordKind::Fixed => return Some(Text::Here(word)),
+            WordKind::Decimal(low, high) => words.decimal(low, high).err()?,
+            WordKind::Hex(4) => words.hex_half().err()?,
+            WordKind::Hex(_) => words.hex().err()?,
             _ => return None,
         };
         match fault {
