@@ -42,6 +42,7 @@ fn push_devices(
 ) -> Result<(), NoMemory> {
     let mut left = functions;
     while let [first, behind @ ..] = left {
+        let _whole = left.len();
         let (own, rest) = left.split_at(1 + others_of_device(first, behind));
         devices.push(judged_device(alloc, machine, bridges, taken, first, own)?)?;
         left = rest;
