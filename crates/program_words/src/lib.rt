@@ -134,13 +134,14 @@ const SAFE: FormRow = FormRow {
     reads: Reads::Protocol,
     limit: BOARD,
     lets_go: false,
-    line: "what each read returns in every run of a board or device text",
-    more: "For each read that a run can reach: `OP safe TARGET SPACE ADDR VALUE`, it returns\n\
-        VALUE in every run in which it ends; or `OP unsafe TARGET SPACE ADDR beside OP`,\n\
-        nothing orders the two. Writes that no target takes are `lost`, polls that nothing\n\
-        meets `vain`, polls that can be met without the write that is meant `loose`. The\n\
-        last line counts; where a count is not 0 the status is 10. `adverse FILE OP OP`\n\
-        writes a run of an unsafe line.",
+    line: "which reads return one value in every run of a board or device text",
+    more: "For each read of a word that a run can reach: `OP safe TARGET SPACE ADDR VALUE`, it\n\
+        returns VALUE in every run in which it ends; or `OP unsafe TARGET SPACE ADDR beside\n\
+        OP`, nothing orders the two. Writes that no target takes are `lost`, polls that\n\
+        nothing meets `vain`, polls that can be met without the write that is meant `loose`.\n\
+        The last line counts; where a count is not 0 the status is 10. Status 0 says what the\n\
+        `safe` lines say and no more: a read that reaches no word has no line, and whether\n\
+        the programs end is not said. `adverse FILE OP OP` writes a run of an unsafe line.",
 };
 
 const ADVERSE: FormRow = FormRow {
@@ -157,7 +158,7 @@ const ADVERSE: FormRow = FormRow {
     more: "READ and WRITE are operations such as cpu.1, mostly those of an `unsafe` line of\n\
         `safe`. Writes the trace of a complete run in which READ is read before WRITE has\n\
         landed. Where the schedule that is tried has no such run the status is 11, and\n\
-        nothing is written.",
+        nothing is written: that shows nothing of other runs.",
 };
 
 const RUN: FormRow = FormRow {

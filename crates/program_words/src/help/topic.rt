@@ -224,4 +224,4 @@ const STATUS: &str = "pcitree help status: how it ends\n\
     8   an event is not allowed, or what a line of the log shows\n\
     9   the run has not ended\n\
     10  not safe: a read, a lost write or a vain poll is listed\n\
-    11  no adverse run was found\n";
+    11  no adverse run was found, which shows nothing\n";
