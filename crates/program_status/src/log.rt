@@ -16,7 +16,8 @@ pub enum LogRefusal {
 pub enum LogExcess {
     /// Masters, operations, or words with which a target opens; or a write to a bridge's registers.
     Operations,
-    /// Pieces of posted writes that a bridge holds.
+    /// Posted writes, their pieces, or delayed requests that a bridge holds, where it holds as many as
+    /// can be written.
     Pieces,
     /// Events of a run.
     Events,
