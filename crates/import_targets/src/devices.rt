@@ -1,4 +1,4 @@
-ghost use Rattle.std.specs.Prelude.{◌≤◌, length};
+ghost use Rattle.std.specs.Prelude.{◌<◌, ◌≤◌, length};
 
 use crate::fate::Placed;
 use crate::functions::functions_behind;
@@ -41,11 +41,10 @@ fn push_devices(
     functions: &[Function],
 ) -> Result<(), NoMemory> {
     let mut left = functions;
-    while let [first, behind @ ..] = left {
-        let _whole = left.len();
-        let (own, rest) = left.split_at(1 + others_of_device(first, behind));
+    while let [first, ..] = left {
+        let (own, behind) = left.split_at(functions_of(first, left));
         devices.push(judged_device(alloc, machine, bridges, taken, first, own)?)?;
-        left = rest;
+        left = behind;
     }
     Ok(())
 }
@@ -144,14 +143,16 @@ fn count_on(targets: &[DevicePlace], bus: u8) -> usize {
     targets.iter().filter(|target| target.bus == bus).count()
 }
 
-/// How many of the functions behind the first, from the next on, are of its device.
-fn others_of_device(first: &Function, behind: &[Function]) -> usize
-    ensures { result ≤ length behind.now }
+/// How many of the functions, from the first on, are of its device: at least that one.
+fn functions_of(first: &Function, functions: &[Function]) -> usize
+    ensures within { 0 < length functions.now → result ≤ length functions.now }
+    ensures some { 0 < result }
 {
-    behind
+    let others = functions
         .iter()
         .position(|other| !same_device(first, other))
-        .unwrap_or(behind.len())
+        .unwrap_or(functions.len());
+    if others == 0 { 1 } else { others }
 }
 
 fn same_device(function: &Function, other: &Function) -> bool {
