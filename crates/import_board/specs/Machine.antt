@@ -145,7 +145,7 @@ are_buses_barred windows root board function =
     || list_any (shares_buses (place_of root function) windows.secondary windows.subordinate) board.bridges))
 
 -- the bus has its eight bridges, or the board its 31
-abbrev pub is_full : Board → ℕ → Bool
+unfoldable pub is_full : Board → ℕ → Bool
 is_full board bus = nat_le 8 (children_on board bus) || nat_le 31 (length board.bridges)
 
 -- the bridge of the function is on the board, or has no place there; of any other function nothing is asked
@@ -224,7 +224,7 @@ has_no_room root function span target =
     is_of_target root target function && not (nat_le (total registers_of target.ranges) (6 - registers_for span))
 
 -- the bus has its six targets
-abbrev pub has_all_targets : Board → ℕ → Bool
+unfoldable pub has_all_targets : Board → ℕ → Bool
 has_all_targets board bus = nat_le 6 (count_by (λ (target : Target). target.bus == bus) board.targets)
 
 -- the function is of no target, and there can be none for it: its bus has all, or no device number is free

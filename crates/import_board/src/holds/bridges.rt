@@ -173,6 +173,7 @@ fn some_share_buses(board: &Board, bus: u8, first: u8, last: u8) -> bool
     bridges.iter().any(|bridge| bridge.parent == bus && bridge.bus <= last && first <= bridge.last)
 }
 
+#[tactic(auto, unfolding(crate::specs::Machine::is_full))]
 fn is_full(board: &Board, bus: u8) -> bool
     ensures { result ≡ is_full board.now bus }
 {

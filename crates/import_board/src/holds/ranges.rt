@@ -165,6 +165,7 @@ fn is_of_some_target(root: Root, board: &Board, function: &Function) -> bool
         .any(|target| is_of_target(root, target, function))
 }
 
+#[tactic(auto, unfolding(crate::specs::Machine::has_all_targets))]
 fn has_all_targets(board: &Board, bus: u8) -> bool
     ensures { result ≡ has_all_targets board.now bus }
 {
