@@ -10,7 +10,7 @@ use Rattle.program_status.specs.declared.status.Status.{Status}
 use Rattle.program_status.specs.declared.status.Status.TheVariants.{NoMemory}
 use Rattle.program_input.specs.Boards.{ReadsBoard}
 use Rattle.program_input.specs.Refusals.{RefusesBy}
-use Rattle.command_boards.specs.import.Answers.{AnswersImport, TellsMachine, RefusesImport, GivesUp, IsUntold, given_up, fault_told, machine_refusal}
+use Rattle.command_boards.specs.import.Answers.{AnswersImport, TellsMachine, RefusesImport, IsUntold, given_up, fault_told, machine_refusal}
 
 -- the two causes
 pub no_memory_untold : (status : Status) → status ≡ NoMemory → IsUntold status

@@ -1,5 +1,5 @@
 -- import: what is written for what `lspci` wrote.
-use Rattle.std.specs.Prelude.{◌≡◌, ◌≤◌, ◌^◌, ◌⊎◌, ⊥, ℕ, List, length, Option, Some, None, Result, Ok, Err}
+use Rattle.std.specs.Prelude.{◌≡◌, ◌≤◌, ◌^◌, ◌⊎◌, ℕ, List, length, Option, Some, None, Result, Ok, Err}
 use Rattle.board_model.specs.declared.board.Board.{Board}
 use Rattle.text_faults.specs.declared.lspci.LspciFault.{LspciFault}
 use Rattle.text_faults.specs.declared.lspci.LspciFault.TheVariants.{NoBoard}

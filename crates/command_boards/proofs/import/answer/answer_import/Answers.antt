@@ -1,4 +1,4 @@
-use Rattle.std.proofs.Common.{◌≡◌, List, Ok, subst}
+use Rattle.std.proofs.Common.{List, subst}
 use Rattle.std.specs.Prelude.{IfOk}
 use Rattle.import_text.specs.declared.function.Function.{Function}
 use Rattle.command_boards.specs.import.Answers.{TellsMachine}
