@@ -1,1 +1,2 @@
+pub mod said
 pub mod writes
