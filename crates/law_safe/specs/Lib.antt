@@ -1,2 +1,1 @@
-pub mod said
 pub mod writes

@@ -13,12 +13,11 @@ ghost use Rattle.history_model.specs.declared.event.Event.{Event};
 ghost use Rattle.history_model.specs.declared.event.Event.TheVariants.{Act};
 ghost use Rattle.history_model.specs.Program.{ended, meets};
 ghost use Rattle.history_model.specs.Runs.{Run};
-ghost use Rattle.history_model.specs.Knowledge.{has_ended};
+ghost use Rattle.history_model.specs.Knowledge.{Reading, got, has_ended, given_value};
 ghost use Rattle.safe_model.specs.Clocks.{Table, at_place, Awaits};
 ghost use Rattle.safe_model.specs.largest.Tests.{is_reached};
 ghost use Rattle.safe_model.specs.largest.Largest.{IsLargest};
 ghost use Rattle.safe_model.specs.said.Said.{safe, vain, said_of};
-ghost use Rattle.law_safe.specs.said.Returns.{Returns};
 
 /// A read that is said to be safe with a word and a value reads that word, and returns the value,
 /// in every run in which it ends.
@@ -26,7 +25,8 @@ pub fn said_safe_returns()
     ensures { (board : Board) (table : Table) (h : List Event) (r : OpId) (word : Dword)
         (value : ℕ) → IsValid board → IsLargest board table →
         said_of board table r ≡ Some (safe word value) → Run board h → has_ended h r ≡ true →
-        Returns board h r word value }
+        (reading : Reading) × (got board h r ≡ Some reading) × (reading.word ≡ word)
+        × (given_value h r ≡ Some value) }
 {}
 
 /// No try of a poll that is said to be vain ends with a value that meets it.

@@ -14,10 +14,9 @@ use Rattle.history_model.specs.declared.event.Event.TheVariants.{Act}
 use Rattle.history_model.specs.Program.{ended, meets}
 use Rattle.history_model.specs.Words.{landed}
 use Rattle.history_model.specs.Runs.{Run, Complete}
-use Rattle.history_model.specs.Knowledge.{has_ended, has_landed, is_landing_of, is_write, last_reading, words_named}
+use Rattle.history_model.specs.Knowledge.{Reading, got, given_value, has_ended, has_landed, is_landing_of, is_write, last_reading, words_named}
 use Rattle.law_untagged.specs.Untagged.{UntaggedRun}
 use Rattle.law_untagged.specs.ApartTest.{is_apart}
-use Rattle.law_safe.specs.said.Returns.{Returns}
 use Rattle.safe_model.specs.Clocks.{Table, at_place, Awaits}
 use Rattle.safe_model.specs.largest.Tests.{is_reached}
 use Rattle.safe_model.specs.largest.Largest.{IsLargest}
@@ -32,10 +31,6 @@ use Rattle.command_safe.specs.safe.Lines.{safe_text}
 abbrev pub Says : List OpVerdict → OpId → Said → Type 0
 Says said o verdict = Contains said (record { op = o; said = verdict })
 
--- it is said of the first try, and so of each
-abbrev pub SaysOfTries : List OpVerdict → OpId → Said → Type 0
-SaysOfTries said o verdict = Says said (at_place o.master o.index) verdict
-
 -- what is said of a valid board by its largest consistent table, the status that counts its faults, and that all of it is
 -- so in every run
 pub record SaysSafe (board : Board) (text : List ℕ) (ending : Status) : Type 0 where
@@ -48,13 +43,14 @@ pub record SaysSafe (board : Board) (text : List ℕ) (ending : Status) : Type 0
   pub written : text ≡ safe_text board said
   pub ends : ending ≡ ending_of (counts_of said)
   -- a read that is safe with a word and a value reads that word, and returns the value, in every run in which it ends
-  pub returns : (h : List Event) (r : OpId) (word : Dword) (value : ℕ) → Says said r (safe word value) → Run board h → has_ended h r ≡ true → Returns board h r word value
+  pub returns : (h : List Event) (r : OpId) (word : Dword) (value : ℕ) → Says said r (safe word value) → Run board h → has_ended h r ≡ true →
+      (reading : Reading) × (got board h r ≡ Some reading) × (reading.word ≡ word) × (given_value h r ≡ Some value)
   -- a write that is lost lands in no word
   pub lost : (h : List Event) (w : OpId) (aborted : Bool) (word : Dword) → Says said w (lost aborted) → Run board h → list_any (is_landing_of w) (landed board h word) ≡ false
   -- a read or a try of a poll that reads nowhere reads no word
-  pub nowhere : (h : List Event) (r : OpId) (aborted : Bool) → SaysOfTries said r (nowhere aborted) → Run board h → last_reading board r h ≡ None
+  pub nowhere : (h : List Event) (r : OpId) (aborted : Bool) → Says said (at_place r.master r.index) (nowhere aborted) → Run board h → last_reading board r h ≡ None
   -- no try of a poll that is vain ends with a value that meets it
-  pub vain : (e : Event) (h : List Event) (p : OpId) (mask wanted : ℕ) (outcome : Outcome) → SaysOfTries said p vain →
+  pub vain : (e : Event) (h : List Event) (p : OpId) (mask wanted : ℕ) (outcome : Outcome) → Says said (at_place p.master p.index) vain →
       Awaits board p mask wanted → Run board (e ∷ h) → ended e ≡ Some (record { op = p; outcome = outcome }) → meets mask wanted outcome ≡ false
   -- a write that has a word has landed, once it has ended and the run is complete
   pub writes : (h : List Event) (w : OpId) → is_write board w ≡ true → words_named board w ≢ [] → Run board h → Complete board h →

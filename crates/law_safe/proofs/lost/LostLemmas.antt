@@ -79,7 +79,8 @@ module _ (board : Board) (table : Table) (w : OpId) (aborted : Bool) where
 none_contained : (word : Dword) → Contains [] word → (X : Type 0) → X
 none_contained word is X = absurd (let below = is.1 in omega (arith, below))
 
-pub nameless_lands : (board : Board) (h : List Event) (w : OpId) (word : Dword) → IsValid board → Run board h → words_named board w ≡ [] → list_any (is_landing_of w) (landed board h word) ≡ false
+pub nameless_lands : (board : Board) (h : List Event) (w : OpId) (word : Dword) → IsValid board → Run board h → words_named board w ≡ []
+    → list_any (is_landing_of w) (landed board h word) ≡ false
 nameless_lands board h w word valid run none =
     let landings : List Landing = landed board h word in
     let P : Bool → Type 0 = λ b. list_any (is_landing_of w) landings ≡ b → b ≡ false in
@@ -90,7 +91,8 @@ nameless_lands board h w word valid run none =
           let one : some.0.op ≡ w = same_op_true some.0.op w (find_passes (is_landing_of w) landings some.0 some.1) in
           let is : Written board word some.0 = Each-find (Written board word) (is_landing_of w) landings some.0 (written board valid word h run) some.1 in
           let writes : is_write board w ≡ true = subst (λ o. is_write board o ≡ true) one is.writes in
-          let brings : list_any (λ (q : Phase). true) (phases_to board word w) ≡ true = subst (λ o. list_any (λ (q : Phase). true) (phases_to board word o) ≡ true) one (is.is_one (λ q. true) refl) in
+          let brings : list_any (λ (q : Phase). true) (phases_to board word w) ≡ true =
+          subst (λ o. list_any (λ (q : Phase). true) (phases_to board word o) ≡ true) one (is.is_one (λ q. true) refl) in
           let named : Contains (words_named board w) word = names_word board word w writes (λ nothing. (
           let F : List Phase → Type 0 = λ ps. list_any (λ (q : Phase). true) ps ≡ true in
           let here : F [] = subst F nothing brings in
@@ -98,5 +100,6 @@ nameless_lands board h w word valid run none =
           none_contained word (subst (λ ws. Contains ws word) none named) (true ≡ false)
     ]) refl
 
-pub lost_lands : (board : Board) (table : Table) (h : List Event) (w : OpId) (aborted : Bool) (word : Dword) → IsValid board → Run board h → said_of board table w ≡ Some (lost aborted) → list_any (is_landing_of w) (landed board h word) ≡ false
+pub lost_lands : (board : Board) (table : Table) (h : List Event) (w : OpId) (aborted : Bool) (word : Dword) → IsValid board → Run board h
+    → said_of board table w ≡ Some (lost aborted) → list_any (is_landing_of w) (landed board h word) ≡ false
 lost_lands board table h w aborted word valid run said = nameless_lands board h w word valid run (lost_names board table w aborted said)

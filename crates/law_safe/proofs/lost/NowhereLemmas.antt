@@ -92,7 +92,8 @@ module _ (board : Board) (table : Table) (r : OpId) (aborted : Bool) where
 
 -- What names no word reads none.
 
-words_at_some : (place : ℕ) (request : Request) (found : Option TargetAgent) → 1 ≤ length request.phases → word_at request found ≡ true → words_at place request found ≡ [] → (X : Type 0) → X
+words_at_some : (place : ℕ) (request : Request) (found : Option TargetAgent) → 1 ≤ length request.phases → word_at request found ≡ true
+    → words_at place request found ≡ [] → (X : Type 0) → X
 words_at_some place request None some has none X = cc
 words_at_some place request (Some target) some has none X =
     let space : Space = space_of request.command in
@@ -104,7 +105,8 @@ words_at_some place request (Some target) some has none X =
       | false ↦ λ _. (elim request.phases as Q [ [] ↦ λ few _. absurd (omega (arith, few)) | phase ∷ phases ↦ λ _ e. cc ]) some
     ]) has none
 
-words_by_some : (board : Board) (request : Request) (place : Place) → 1 ≤ length request.phases → word_by board request place ≡ true → words_by board request place ≡ [] → (X : Type 0) → X
+words_by_some : (board : Board) (request : Request) (place : Place) → 1 ≤ length request.phases → word_by board request place ≡ true
+    → words_by board request place ≡ [] → (X : Type 0) → X
 words_by_some board request (Target place) some has none X = words_at_some place request (slice_get board.targets place) some has none X
 words_by_some board request (Header bus) some has none X = cc
 words_by_some board request (Lane lane) some has none X = cc
@@ -125,7 +127,8 @@ nameless_reads board h r valid run none =
       | Some reading ↦ λ _ has. words_by_some board (request_on op route.bus) route.owner some has (sym named ∙ none) (Some reading ≡ None)
     ]) refl known.has)
 
-pub nowhere_reads : (board : Board) (table : Table) (h : List Event) (r : OpId) (aborted : Bool) → IsValid board → Run board h → said_of board table (at_place r.master r.index) ≡ Some (nowhere aborted) → last_reading board r h ≡ None
+pub nowhere_reads : (board : Board) (table : Table) (h : List Event) (r : OpId) (aborted : Bool) → IsValid board → Run board h
+    → said_of board table (at_place r.master r.index) ≡ Some (nowhere aborted) → last_reading board r h ≡ None
 nowhere_reads board table h r aborted valid run said =
     let none : words_named board (at_place r.master r.index) ≡ [] = nowhere_names board table (at_place r.master r.index) aborted said in
     let P : Option Op → Type 0 = λ found. op_of board r ≡ found → words_named board r ≡ [] in

@@ -47,7 +47,8 @@ module _ (board : Board) (w : OpId) (op : Op) (covers : Covers board w op) where
   end_covers (Arrive lane mark) h outcome run ends = cc
   end_covers (Act on (ByLane lane) o step place) h outcome run ends = cc
   end_covers (Act on Master o step place) h outcome run ends =
-      let P : Option Outcome → Type 0 = λ given. master_outcome step ≡ given → ending_of o given ≡ Some (record { op = w; outcome = outcome }) → IsCovered (Act on Master o step place ∷ h) in
+      let P : Option Outcome → Type 0 = λ given. master_outcome step ≡ given → ending_of o given ≡ Some (record { op = w; outcome = outcome })
+      → IsCovered (Act on Master o step place ∷ h) in
       (elim (master_outcome step) as P [
         | None ↦ λ _ f. cc
         | Some given ↦ λ is f.
@@ -98,7 +99,8 @@ covered_landed board h w op on run complete is =
     let P : Bool → Type 0 = λ b. (b || false) ≡ true → b ≡ true in
     (elim (has_landed h w) as P [ true ↦ λ _. refl | false ↦ λ e. cc ]) (subst F none is)
 
-pub ended_landed : (board : Board) (h : List Event) (w : OpId) → IsValid board → Run board h → Complete board h → is_write board w ≡ true → words_named board w ≢ [] → has_ended h w ≡ true → has_landed h w ≡ true
+pub ended_landed : (board : Board) (h : List Event) (w : OpId) → IsValid board → Run board h → Complete board h → is_write board w ≡ true → words_named board w ≢ []
+    → has_ended h w ≡ true → has_landed h w ≡ true
 ended_landed board h w valid run complete writes some ends =
     let parts = and_parts (is_some (op_of board w)) _ writes in
     let no_read : reads board w ≡ false = (

@@ -25,7 +25,7 @@ use Rattle.board_model.proofs.Laws.{op_formed, op_there}
 use Rattle.history_model.specs.declared.event.Event.{Event}
 use Rattle.history_model.specs.Program.{ended, meets}
 use Rattle.history_model.specs.Words.{opens_as}
-use Rattle.history_model.specs.Knowledge.{words_on, words_named, is_landing_of, has_ended}
+use Rattle.history_model.specs.Knowledge.{Reading, got, given_value, words_on, words_named, is_landing_of, has_ended}
 use Rattle.history_model.specs.Runs.{Run}
 use Rattle.list_facts.proofs.EachLemmas.{Each-all, Each-weaker}
 use Rattle.list_facts.proofs.FindLemmas.{find-none_any}
@@ -38,7 +38,6 @@ use Rattle.safe_model.specs.Vain.{IsVain}
 use Rattle.safe_model.specs.largest.Tests.{is_before, is_reached, brings, writes_of, Wish, wish_of, raises, is_firm, opens_out, is_told, is_left_out, raisers}
 use Rattle.safe_model.specs.largest.Largest.{IsLargest}
 use Rattle.safe_model.specs.said.Said.{Said, safe, vain, loose, nowhere, said_nowhere, members, members_before, is_beside, is_open, first_beside, in_order, all_landings, left_by, said_beside, said_of_read, said_lost, owner_of, said_of_write, said_of_poll, said_as, said_of}
-use Rattle.law_safe.specs.said.Returns.{Returns}
 use Rattle.law_safe.proofs.safe.SafeLemmas.{safe_returns, safe_reads}
 use Rattle.law_safe.proofs.vain.VainLemmas.{never_met}
 use Rattle.safe_model.proofs.largest.TestLemmas.{either_way, not_both, any_of, any_both, some_write, brings_writes, brings_some, some_brings, before_is, left_is, opens_is, raises_brings, firm_is}
@@ -272,16 +271,12 @@ said_word board table r word value safe_here said =
     let e : safe_here.word ∷ [] ≡ word ∷ [] = sym safe_here.has_word ∙ it.has_word in
     cc
 
-pub said_returns : (board : Board) (table : Table) (h : List Event) (r : OpId) (word : Dword) (value : ℕ) → IsValid board → IsLargest board table → said_of board table r ≡ Some (safe word value) → Run board h → has_ended h r ≡ true → Returns board h r word value
+pub said_returns : (board : Board) (table : Table) (h : List Event) (r : OpId) (word : Dword) (value : ℕ) → IsValid board → IsLargest board table → said_of board table r ≡ Some (safe word value) → Run board h → has_ended h r ≡ true
+    → (reading : Reading) × (got board h r ≡ Some reading) × (reading.word ≡ word) × (given_value h r ≡ Some value)
 said_returns board table h r word value valid is_largest said run ends =
     let safe_here : IsSafe board table r value = said_is_safe board table r word value valid is_largest said in
     let it = safe_reads board table h r value valid safe_here run ends in
-    record {
-      reading = it.0;
-      is_got = it.1;
-      in_word = it.2 ∙ said_word board table r word value safe_here said;
-      gives = safe_returns board table h r value valid is_largest.consistent safe_here run ends;
-    }
+    (it.0, it.1, it.2 ∙ said_word board table r word value safe_here said, safe_returns board table h r value valid is_largest.consistent safe_here run ends)
 
 -- A poll that is said to be vain.
 
