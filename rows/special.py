@@ -338,7 +338,7 @@ def name_that_does_not_print(place):
     yield "name_that_does_not_print", seen, Wanted(6, b"", "pcitree: board line 2 fault L1")
 
 
-# The man page, where there is what shows it: without a warning of its formatter.
+# The man page, where there is what shows it: without a warning of its formatter, and no line wider than 80 columns.
 
 
 @row("man_page")
@@ -347,6 +347,17 @@ def man_page(place):
         words = ["man", "--warnings=w", "-l", "../docs/pcitree.1"]
         seen = called(words, env={**os.environ, "LC_ALL": "C", "MANWIDTH": "80"})
         yield "man_page", seen.cut(10), Wanted(0, b"PCITREE(1)", "-")
+        wide = [line for line in seen.out.split(b"\n") if len(line) > 80]
+        yield "man_page_is_80_columns", seen_as(seen, b"\n".join(wide)), Wanted(0, b"", "-")
+
+
+# README is short enough to be read before anything is tried.
+
+
+@row("readme_words")
+def readme_words(place):
+    count = len(place.read("../README.md").split())
+    yield "readme_words", Seen(0, b"1600 words or fewer" if count <= 1600 else b"%d words" % count, b""), Wanted(0, b"1600 words or fewer", "-")
 
 
 # The version is the one that the file says, and the logic by which all was proved is that of the kit that is here; another kit
@@ -436,8 +447,11 @@ def drawn(place):
 
 
 def scripts():
-    # the commands of README.md and of the guide
+    # the commands of README.md and of the guide, and the recipes of docs/ci.md
     yield "readme_commands", ["../tools/trials/readme-commands", "README.md", "docs/GUIDE.md"]
+    yield "try_recipes", ["../tools/trials/try-recipes"]
+    # the launcher over made checkouts, with stubs for the program and what builds it
+    yield "try_launcher", ["../tools/trials/try-launcher"]
     # `safe` beside a second program, over all boards here and some that are drawn, and what `adverse` writes of them
     yield "safe_by_definitions", ["../tools/oracles/safe-by-definitions", "--compare", PROGRAM, "250"]
     # the caret below the word at fault, by the fronts of each line that is refused

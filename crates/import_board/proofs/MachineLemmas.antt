@@ -7,8 +7,8 @@ use Rattle.import_bridges.specs.declared.machine.Root.{Root}
 use Rattle.import_board.specs.Machine.{is_machine, IsMachine}
 
 pub of_test : (root : Root) (functions : List Function) (board : Board) → is_machine root functions board ≡ true → IsMachine root functions board
-of_test root functions board yes =
-    let one = and_parts _ _ yes in
+of_test root functions board is =
+    let one = and_parts _ _ is in
     let two = and_parts _ _ one.1 in
     let three = and_parts _ _ two.1 in
     let four = and_parts _ _ three.1 in

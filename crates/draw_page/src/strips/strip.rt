@@ -68,15 +68,8 @@ fn top_of(strip: u32) -> u64 {
 
 /// And that at which it ends.
 fn foot_of(frame: &Frame, strip: u32) -> u64 {
-    let rows = high_row(frame, strip).saturating_sub(u64::from(frame.first));
-    16 * rows + 16
-}
-
-/// The last row of a strip.
-fn high_row(frame: &Frame, strip: u32) -> u64
-    ensures { result ≤ frame.now.last }
-{
-    (u64::from(frame.first) + 32 * u64::from(strip) + 31).min(u64::from(frame.last))
+    let last = u64::from(frame.last.saturating_sub(frame.first));
+    16 * last.min(32 * u64::from(strip) + 31) + 16
 }
 
 /// The strips, with nothing in front of their columns.
