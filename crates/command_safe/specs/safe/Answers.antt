@@ -25,7 +25,7 @@ use Rattle.program_status.specs.declared.status.Status.{Status}
 use Rattle.program_input.specs.Protocols.{ReadsProtocol}
 use Rattle.safe_table.specs.AllSaid.{Line as OpVerdict, all_said}
 use Rattle.command_safe.specs.safe.Counts.{counts_of, ending_of}
-use Rattle.command_safe.specs.safe.Lines.{safe_text}
+use Rattle.command_safe.specs.safe.Lines.{lines_of}
 
 -- it is said of the operation
 abbrev pub Says : List OpVerdict → OpId → Said → Type 0
@@ -40,7 +40,7 @@ pub record SaysSafe (board : Board) (text : List ℕ) (ending : Status) : Type 0
   -- what is said of its operations, as the text has it
   pub said : List OpVerdict
   pub exact : said ≡ all_said board table
-  pub written : text ≡ safe_text board said
+  pub written : text ≡ lines_of board said (is_apart board)
   pub ends : ending ≡ ending_of (counts_of said)
   -- a read that is safe with a word and a value reads that word, and returns the value, in every run in which it ends
   pub returns : (h : List Event) (r : OpId) (word : Dword) (value : ℕ) → Says said r (safe word value) → Run board h → has_ended h r ≡ true →
@@ -53,8 +53,7 @@ pub record SaysSafe (board : Board) (text : List ℕ) (ending : Status) : Type 0
   pub vain : (e : Event) (h : List Event) (p : OpId) (mask wanted : ℕ) (outcome : Outcome) → Says said (at_place p.master p.index) vain →
       Awaits board p mask wanted → Run board (e ∷ h) → ended e ≡ Some (record { op = p; outcome = outcome }) → meets mask wanted outcome ≡ false
   -- a write that has a word has landed, once it has ended and the run is complete
-  pub writes : (h : List Event) (w : OpId) → is_write board w ≡ true → words_named board w ≢ [] → Run board h → Complete board h →
-      has_ended h w ≡ true → has_landed h w ≡ true
+  pub writes : (h : List Event) (w : OpId) → is_write board w ≡ true → words_named board w ≢ [] → Run board h → Complete board h → has_ended h w ≡ true → has_landed h w ≡ true
   -- an operation that has no line since it is not reached is never done
   pub unreached : (h : List Event) (o : OpId) (on : ℕ) (by : By) (step : Step) (place : Place) → is_reached board table o ≡ false →
       Run board (Act on by o step place ∷ h) → ⊥

@@ -44,10 +44,8 @@ is_nowhere one = says_nowhere one.said
 
 -- how many there are of each; a loose poll is not counted
 abbrev pub counts_of : List OpVerdict → SafeCounts
-counts_of said =
-    record { unsafe_reads = count_by is_unsafe said; lost = count_by is_lost said; vain = count_by is_vain said; nowhere = count_by is_nowhere said }
+counts_of said = record { unsafe_reads = count_by is_unsafe said; lost = count_by is_lost said; vain = count_by is_vain said; nowhere = count_by is_nowhere said }
 
 -- the status: where there are none, as of any text that is whole in the sink
 abbrev pub ending_of : SafeCounts → Status
-ending_of counts =
-    if counts.unsafe_reads == 0 && (counts.lost == 0 && (counts.vain == 0 && counts.nowhere == 0)) then Done else NotSafe counts
+ending_of counts = if counts.unsafe_reads == 0 && (counts.lost == 0 && (counts.vain == 0 && counts.nowhere == 0)) then Done else NotSafe counts

@@ -8,7 +8,6 @@ use Rattle.board_printer.specs.Lines.{Line, line_text, text_of}
 use Rattle.board_printer.specs.Numbers.{word_text, address_text}
 use Rattle.board_printer.specs.Spaces.{space_word}
 use Rattle.trace_text.specs.Words.{master_name, target_name}
-use Rattle.law_untagged.specs.ApartTest.{is_apart}
 use Rattle.safe_model.specs.said.Said.{Said, safe, unsafe, lost, nowhere, vain, loose}
 use Rattle.untagged_apart.specs.Lines.{apart_line}
 use Rattle.program_status.specs.declared.counts.SafeCounts.{SafeCounts}
@@ -28,8 +27,7 @@ abbrev pub end_word : Bool → List ℕ
 end_word true = codes "abort"
 end_word false = codes "nobody"
 
--- `safe TARGET SPACE ADDR VALUE`, `unsafe TARGET SPACE ADDR beside OP`, `lost nobody`, `lost abort`, `nobody`, `abort`, `vain`
--- or `loose`
+-- `safe TARGET SPACE ADDR VALUE`, `unsafe TARGET SPACE ADDR beside OP`, `lost nobody`, `lost abort`, `nobody`, `abort`, `vain`, `loose`
 abbrev pub said_words : Board → Said → Line
 said_words board (safe word value) = codes "safe" ∷ (dword_words board word.target word.space word.address ++ word_text value ∷ [])
 said_words board (unsafe word beside) = codes "unsafe" ∷ (dword_words board word.target word.space word.address ++ codes "beside" ∷ place_word board beside ∷ [])
@@ -58,7 +56,3 @@ said_lines board said = text_of (map (said_line board) said)
 -- these lines, whether masters are apart, and how many of the lines tell of a fault
 abbrev pub lines_of : Board → List OpVerdict → Bool → List ℕ
 lines_of board said apart = said_lines board said ++ line_text (apart_line apart) ++ line_text (count_line (counts_of said))
-
--- all that is said of a board
-abbrev pub safe_text : Board → List OpVerdict → List ℕ
-safe_text board said = lines_of board said (is_apart board)

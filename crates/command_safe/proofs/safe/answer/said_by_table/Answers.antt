@@ -1,11 +1,12 @@
 use Rattle.std.proofs.Common.{◌≡◌, ◌^◌, ◌<◌, List, length, map, refl, sym, ap, subst, ◌∙◌}
+use Rattle.law_untagged.specs.ApartTest.{is_apart}
 use Rattle.safe_model.specs.Clocks.{at_place}
 use Rattle.safe_model.specs.said.Said.{safe, lost, nowhere, vain}
 use Rattle.safe_table.specs.Rows.{table_of}
 use Rattle.safe_table.specs.AllSaid.{Line as OpVerdict, line, all_said}
 use Rattle.safe_table.specs.declared.said.verdict.OpSaid.{OpSaid}
 use Rattle.command_safe.specs.safe.Counts.{counts_of, ending_of}
-use Rattle.command_safe.specs.safe.Lines.{safe_text}
+use Rattle.command_safe.specs.safe.Lines.{lines_of}
 use Rattle.command_safe.proofs.safe.CountLemmas.{said_few}
 use Rattle.command_safe.proofs.safe.ListedLemmas.{listed}
 use Rattle.command_safe.proofs.safe.SaysLemmas.{of_both}
@@ -36,7 +37,7 @@ returns-in-Ok-clause-ok c =
       largest = largest;
       said = all_said board table;
       exact = refl;
-      written = written ∙ ap (λ (said : List OpVerdict). safe_text board said) is;
+      written = written ∙ ap (λ (said : List OpVerdict). lines_of board said (is_apart board)) is;
       ends = ends ∙ ap (λ (said : List OpVerdict). ending_of (counts_of said)) is;
       returns = λ h r word value says run. c.said_safe_returns.ensures board table h r word value valid largest (listed board table r (safe word value) says) run;
       lost = λ h w aborted word says run. c.lost_never_lands.ensures board table h w aborted word valid run (listed board table w (lost aborted) says);
