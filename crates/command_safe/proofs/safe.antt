@@ -1,4 +1,5 @@
 pub mod AddressLemmas
 pub mod CountLemmas
+pub mod ListedLemmas
 pub mod SaysLemmas
 pub mod EndingLemmas

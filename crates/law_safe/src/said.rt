@@ -13,26 +13,29 @@ ghost use Rattle.history_model.specs.declared.event.Event.{Event};
 ghost use Rattle.history_model.specs.declared.event.Event.TheVariants.{Act};
 ghost use Rattle.history_model.specs.Program.{ended, meets};
 ghost use Rattle.history_model.specs.Runs.{Run};
-ghost use Rattle.history_model.specs.Knowledge.{has_ended, given_value};
-ghost use Rattle.safe_model.specs.Clocks.{Table, Awaits};
+ghost use Rattle.history_model.specs.Knowledge.{Reading, got, has_ended, given_value};
+ghost use Rattle.safe_model.specs.Clocks.{Table, at_place, Awaits};
 ghost use Rattle.safe_model.specs.largest.Tests.{is_reached};
 ghost use Rattle.safe_model.specs.largest.Largest.{IsLargest};
 ghost use Rattle.safe_model.specs.said.Said.{safe, vain, said_of};
 
-/// A read that is said to be safe with a value returns it in every run in which it ends.
+/// A read that is said to be safe with a word and a value reads that word, and returns the value,
+/// in every run in which it ends.
 pub fn said_safe_returns()
     ensures { (board : Board) (table : Table) (h : List Event) (r : OpId) (word : Dword)
         (value : ℕ) → IsValid board → IsLargest board table →
         said_of board table r ≡ Some (safe word value) → Run board h → has_ended h r ≡ true →
-        given_value h r ≡ Some value }
+        (reading : Reading) × (got board h r ≡ Some reading) × (reading.word ≡ word)
+        × (given_value h r ≡ Some value) }
 {}
 
 /// No try of a poll that is said to be vain ends with a value that meets it.
 pub fn said_vain_is_not_met()
     ensures { (board : Board) (table : Table) (e : Event) (h : List Event) (p : OpId) (mask : ℕ)
         (wanted : ℕ) (outcome : Outcome) → IsValid board → IsLargest board table →
-        said_of board table p ≡ Some vain → Awaits board p mask wanted → Run board (e ∷ h) →
-        ended e ≡ Some (record { op = p; outcome = outcome }) → meets mask wanted outcome ≡ false }
+        said_of board table (at_place p.master p.index) ≡ Some vain → Awaits board p mask wanted →
+        Run board (e ∷ h) → ended e ≡ Some (record { op = p; outcome = outcome }) →
+        meets mask wanted outcome ≡ false }
 {}
 
 /// No run has an event of an operation that is not reached, so that nothing is said of it.

@@ -1,3 +1,4 @@
+pub mod CountText
 pub mod LogText
 pub mod StatusText
 pub mod Subjects

@@ -10,6 +10,7 @@ use Rattle.history_model.specs.WhyText.{why_text}
 use Rattle.text_faults.specs.Lspci.{code_of as machine_code_of}
 use Rattle.text_faults.specs.TraceLine.{code_of as trace_code_of}
 use Rattle.text_faults.specs.LogLine.{code_of as log_code_of}
+use Rattle.program_status.specs.CountText.{counts_text}
 use Rattle.program_status.specs.LogText.{refusal_text, excess_text}
 use Rattle.program_status.specs.declared.status.Status.{Status}
 use Rattle.program_status.specs.declared.status.Status.TheVariants.{Done, NoMemory, Usage, ReadFault, WriteFault, TooLong, BadBoard, BadTrace, BadMachine, TooManyEvents, NotRun, Incomplete, NotSafe, NotShown, DrawnTo, BadLog, NotTold, TooMuch, ToldTo}
@@ -30,7 +31,7 @@ number_of (BadMachine _ _) = 6
 number_of (TooManyEvents _) = 5
 number_of (NotRun _ _) = 8
 number_of (Incomplete _) = 9
-number_of (NotSafe _ _ _) = 10
+number_of (NotSafe _) = 10
 number_of NotShown = 11
 number_of (DrawnTo _ _) = 8
 number_of (BadLog _ _) = 7
@@ -66,8 +67,7 @@ status_text (BadMachine line fault) = codes "pcitree: import line " ++ (decimal 
 status_text (TooManyEvents events) = codes "pcitree: " ++ (decimal events ++ codes " events are too many to draw")
 status_text (NotRun event why) = codes "pcitree: event " ++ (decimal event ++ (codes " is not allowed: " ++ why_text why))
 status_text (Incomplete left) = codes "pcitree: incomplete, at most " ++ (decimal left ++ codes " events left")
-status_text (NotSafe unsafe_reads lost vain) =
-    codes "pcitree: " ++ (decimal unsafe_reads ++ (codes " unsafe, " ++ (decimal lost ++ (codes " lost, " ++ (decimal vain ++ codes " vain")))))
+status_text (NotSafe counts) = codes "pcitree: " ++ counts_text counts
 status_text NotShown = codes "pcitree: READ did not read before WRITE landed"
 status_text (DrawnTo event why) = codes "pcitree: event " ++ (decimal event ++ (codes " is not allowed: " ++ why_text why))
 status_text (BadLog line fault) = codes "pcitree: log line " ++ (decimal line ++ (codes " fault G" ++ decimal (log_code_of fault)))

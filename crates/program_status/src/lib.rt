@@ -3,9 +3,11 @@
 #![tactic(auto)]
 
 mod answered;
+mod counts;
 mod log;
 mod status;
 
 pub use answered::Answered;
+pub use counts::SafeCounts;
 pub use log::{LogExcess, LogRefusal};
 pub use status::{BoardFault, Status};

@@ -1,6 +1,7 @@
 ghost use Rattle.std.specs.Prelude.{◌≡◌};
 ghost use Rattle.program_status.specs.StatusText.{letter_of};
 
+use crate::counts::SafeCounts;
 use crate::log::{LogExcess, LogRefusal};
 use history_model::Why;
 use std::alloc::AllocError;
@@ -31,9 +32,7 @@ pub enum Status {
     NoMemory,
     /// The words are of no form: the place, from 0, of the first that fits no form, or the number
     /// of words where one is missing.
-    Usage {
-        word: u32,
-    },
+    Usage { word: u32 },
     /// The source failed.
     ReadFault,
     /// The sink failed: it has a front of the text.
@@ -41,69 +40,33 @@ pub enum Status {
     /// The source held too many bytes.
     TooLong,
     /// The board has a fault, at this line from 1 on, or 0 for the whole of it.
-    BadBoard {
-        line: u32,
-        fault: BoardFault,
-    },
+    BadBoard { line: u32, fault: BoardFault },
     /// The text of the trace has a fault outside its board, at this line from 1 on.
-    BadTrace {
-        line: u32,
-        fault: TraceLineFault,
-    },
+    BadTrace { line: u32, fault: TraceLineFault },
     /// What `lspci` wrote has a fault, at this line from 1 on, or 0 for the whole of it.
-    BadMachine {
-        line: u32,
-        fault: LspciFault,
-    },
+    BadMachine { line: u32, fault: LspciFault },
     /// So many events are to be drawn: more than a page may show.
-    TooManyEvents {
-        events: u64,
-    },
+    TooManyEvents { events: u64 },
     /// This event, from 1 on, is not allowed after those before it.
-    NotRun {
-        event: u32,
-        why: Why,
-    },
+    NotRun { event: u32, why: Why },
     /// The run has not ended: at most so many events are left.
-    Incomplete {
-        left: u64,
-    },
-    /// The text is whole in the sink, and tells of so many reads that are not safe, writes that are
-    /// lost and polls that are met in no run: of one at least.
-    NotSafe {
-        unsafe_reads: u32,
-        lost: u32,
-        vain: u32,
-    },
+    Incomplete { left: u64 },
+    /// The text is whole in the sink, and lists so many faults of the protocol: one at least.
+    NotSafe { counts: SafeCounts },
     /// The read that was named did not read before the write that was named landed.
     NotShown,
     /// The text is whole in the sink: it shows the events before this one, from 1 on, and then this
     /// one, which is not allowed after them.
-    DrawnTo {
-        event: u32,
-        why: Why,
-    },
+    DrawnTo { event: u32, why: Why },
     /// The text of the log has a fault outside its board, at this line from 1 on.
-    BadLog {
-        line: u32,
-        fault: LogLineFault,
-    },
+    BadLog { line: u32, fault: LogLineFault },
     /// What this line of the log shows, from 1 on, is not allowed.
-    NotTold {
-        line: u32,
-        refusal: LogRefusal,
-    },
+    NotTold { line: u32, refusal: LogRefusal },
     /// This line of the log, from 1 on, is more than a board or a run of it may have.
-    TooMuch {
-        line: u32,
-        excess: LogExcess,
-    },
+    TooMuch { line: u32, excess: LogExcess },
     /// The text is whole in the sink: it has all acts of the log, of which one of this line, from 1
     /// on, is not allowed after those before it.
-    ToldTo {
-        line: u32,
-        why: Why,
-    },
+    ToldTo { line: u32, why: Why },
 }
 
 impl Status {
@@ -209,14 +172,7 @@ impl fmt::Display for Status {
             Status::Incomplete { left } => {
                 write!(f, "pcitree: incomplete, at most {left} events left")
             }
-            Status::NotSafe {
-                unsafe_reads,
-                lost,
-                vain,
-            } => write!(
-                f,
-                "pcitree: {unsafe_reads} unsafe, {lost} lost, {vain} vain"
-            ),
+            Status::NotSafe { counts } => write!(f, "pcitree: {counts}"),
             Status::NotShown => write!(f, "pcitree: READ did not read before WRITE landed"),
             Status::BadLog { line, fault } => {
                 let code = fault.code();

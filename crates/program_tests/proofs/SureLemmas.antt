@@ -15,7 +15,7 @@ module _ (form : Form) (words : List (List ℕ)) (input : List ℕ) where
   -- an input that is served is answered, where no port is at fault and there is memory
   pub answered_or_no_memory : (status : Status) → status ≢ ReadFault → status ≢ WriteFault → Serves status → Causes form words input status → IsAnswered form words input status ⊎ (status ≡ NoMemory)
   answered_or_no_memory Done reads writes serves cause = inl cause
-  answered_or_no_memory (NotSafe unsafe_reads lost vain) reads writes serves cause = inl cause
+  answered_or_no_memory (NotSafe counts) reads writes serves cause = inl cause
   answered_or_no_memory (DrawnTo event why) reads writes serves cause = inl cause
   answered_or_no_memory (ToldTo line why) reads writes serves cause = inl cause
   answered_or_no_memory NoMemory reads writes serves cause = inr refl

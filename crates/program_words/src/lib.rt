@@ -137,11 +137,11 @@ const SAFE: FormRow = FormRow {
     line: "which reads return one value in every run of a board or device text",
     more: "For each read of a word that a run can reach: `OP safe TARGET SPACE ADDR VALUE`, it\n\
         returns VALUE in every run in which it ends; or `OP unsafe TARGET SPACE ADDR beside\n\
-        OP`, nothing orders the two. Writes that no target takes are `lost`, polls that\n\
-        nothing meets `vain`, polls that can be met without the write that is meant `loose`.\n\
-        The last line counts; where a count is not 0 the status is 10. Status 0 says what the\n\
-        `safe` lines say and no more: a read that reaches no word has no line, and whether\n\
-        the programs end is not said. `adverse FILE OP OP` writes a run of an unsafe line.",
+        OP`, nothing orders the two. Writes that no target takes are `lost`, reads and polls\n\
+        that none takes `nobody` or `abort`, polls that nothing meets `vain`, polls that can\n\
+        be met without the write that is meant `loose`. The last line counts (`nowhere` those\n\
+        that read no word); where a count is not 0 the status is 10. Whether the programs end\n\
+        is not said. `adverse FILE OP OP` writes a run of an unsafe line.",
 };
 
 const ADVERSE: FormRow = FormRow {

@@ -4,10 +4,10 @@ use Rattle.pci_command.specs.declared.op_id.OpId.{OpId}
 use Rattle.board_model.specs.declared.board.Board.{Board}
 use Rattle.safe_model.specs.Ops.{ops_by}
 use Rattle.safe_model.specs.Clocks.{Table}
-use Rattle.safe_model.specs.said.Said.{Said as Verdict, safe, unsafe, lost, vain, loose, said_of}
+use Rattle.safe_model.specs.said.Said.{Said as Verdict, safe, unsafe, lost, nowhere, vain, loose, said_of}
 use Rattle.audit_clocks.specs.Tables.{dword}
 use Rattle.safe_table.specs.declared.said.verdict.Said.{Said}
-use Rattle.safe_table.specs.declared.said.verdict.Said.TheVariants.{Safe, Unsafe, Lost, Vain, Loose}
+use Rattle.safe_table.specs.declared.said.verdict.Said.TheVariants.{Safe, Unsafe, Lost, Nowhere, Vain, Loose}
 use Rattle.safe_table.specs.declared.said.verdict.OpSaid.{OpSaid}
 
 -- what is said, as the laws have it
@@ -15,6 +15,7 @@ abbrev pub verdict : Said → Verdict
 verdict (Safe word value) = safe (dword word) value
 verdict (Unsafe word beside) = unsafe (dword word) beside
 verdict (Lost aborted) = lost aborted
+verdict (Nowhere aborted) = nowhere aborted
 verdict Vain = vain
 verdict Loose = loose
 

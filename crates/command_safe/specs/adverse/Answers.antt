@@ -1,5 +1,5 @@
 -- adverse: what is written for a board and two words, and with which status they are refused.
-use Rattle.std.specs.Prelude.{◌≡◌, ℕ, List, ◌⊎◌, Some, None, Ok}
+use Rattle.std.specs.Prelude.{◌≡◌, ℕ, List, ◌⊎◌, Some, None}
 use Rattle.board_model.specs.declared.board.Board.{Board}
 use Rattle.board_model.specs.Valid.{IsValid}
 use Rattle.history_model.specs.declared.event.Event.{Event}

@@ -1,5 +1,6 @@
 -- safe: what is written for the text of a board or of devices on one, and what it says of all runs.
-use Rattle.std.specs.Prelude.{◌≡◌, ◌↔◌, ℕ, true, false, List, ◌∷◌, Some}
+use Rattle.std.specs.Prelude.{◌≡◌, ◌≢◌, ◌↔◌, ℕ, Bool, true, false, List, [], ◌∷◌, Some, None, Contains}
+use Rattle.std.specs.List.{list_any}
 use Rattle.pci_command.specs.declared.op_id.OpId.{OpId}
 use Rattle.pci_command.specs.declared.op_id.Outcome.{Outcome}
 use Rattle.board_model.specs.declared.bridge.Place.{Place}
@@ -11,19 +12,24 @@ use Rattle.history_model.specs.declared.event.Step.{Step}
 use Rattle.history_model.specs.declared.event.Event.{Event}
 use Rattle.history_model.specs.declared.event.Event.TheVariants.{Act}
 use Rattle.history_model.specs.Program.{ended, meets}
-use Rattle.history_model.specs.Runs.{Run}
-use Rattle.history_model.specs.Knowledge.{has_ended, given_value}
+use Rattle.history_model.specs.Words.{landed}
+use Rattle.history_model.specs.Runs.{Run, Complete}
+use Rattle.history_model.specs.Knowledge.{Reading, got, given_value, has_ended, has_landed, is_landing_of, is_write, last_reading, words_named}
 use Rattle.law_untagged.specs.Untagged.{UntaggedRun}
 use Rattle.law_untagged.specs.ApartTest.{is_apart}
-use Rattle.safe_model.specs.Clocks.{Table, Awaits}
+use Rattle.safe_model.specs.Clocks.{Table, at_place, Awaits}
 use Rattle.safe_model.specs.largest.Tests.{is_reached}
 use Rattle.safe_model.specs.largest.Largest.{IsLargest}
-use Rattle.safe_model.specs.said.Said.{safe, vain, said_of}
+use Rattle.safe_model.specs.said.Said.{Said, safe, lost, nowhere, vain}
 use Rattle.program_status.specs.declared.status.Status.{Status}
 use Rattle.program_input.specs.Protocols.{ReadsProtocol}
-use Rattle.safe_table.specs.AllSaid.{all_said}
+use Rattle.safe_table.specs.AllSaid.{Line as OpVerdict, all_said}
 use Rattle.command_safe.specs.safe.Counts.{counts_of, ending_of}
-use Rattle.command_safe.specs.safe.Lines.{safe_text}
+use Rattle.command_safe.specs.safe.Lines.{lines_of}
+
+-- it is said of the operation
+abbrev pub Says : List OpVerdict → OpId → Said → Type 0
+Says said o verdict = Contains said (record { op = o; said = verdict })
 
 -- what is said of a valid board by its largest consistent table, the status that counts its faults, and that all of it is
 -- so in every run
@@ -31,14 +37,23 @@ pub record SaysSafe (board : Board) (text : List ℕ) (ending : Status) : Type 0
   pub valid : IsValid board
   pub table : Table
   pub largest : IsLargest board table
-  pub written : text ≡ safe_text board table
-  pub ends : ending ≡ ending_of (counts_of (all_said board table))
-  -- a read that is safe with a value returns it in every run in which it ends
-  pub returns : (h : List Event) (r : OpId) (word : Dword) (value : ℕ) → said_of board table r ≡ Some (safe word value) → Run board h →
-      has_ended h r ≡ true → given_value h r ≡ Some value
+  -- what is said of its operations, as the text has it
+  pub said : List OpVerdict
+  pub exact : said ≡ all_said board table
+  pub written : text ≡ lines_of board said (is_apart board)
+  pub ends : ending ≡ ending_of (counts_of said)
+  -- a read that is safe with a word and a value reads that word, and returns the value, in every run in which it ends
+  pub returns : (h : List Event) (r : OpId) (word : Dword) (value : ℕ) → Says said r (safe word value) → Run board h → has_ended h r ≡ true →
+      (reading : Reading) × (got board h r ≡ Some reading) × (reading.word ≡ word) × (given_value h r ≡ Some value)
+  -- a write that is lost lands in no word
+  pub lost : (h : List Event) (w : OpId) (aborted : Bool) (word : Dword) → Says said w (lost aborted) → Run board h → list_any (is_landing_of w) (landed board h word) ≡ false
+  -- a read or a try of a poll that reads nowhere reads no word
+  pub nowhere : (h : List Event) (r : OpId) (aborted : Bool) → Says said (at_place r.master r.index) (nowhere aborted) → Run board h → last_reading board r h ≡ None
   -- no try of a poll that is vain ends with a value that meets it
-  pub vain : (e : Event) (h : List Event) (p : OpId) (mask wanted : ℕ) (outcome : Outcome) → said_of board table p ≡ Some vain →
+  pub vain : (e : Event) (h : List Event) (p : OpId) (mask wanted : ℕ) (outcome : Outcome) → Says said (at_place p.master p.index) vain →
       Awaits board p mask wanted → Run board (e ∷ h) → ended e ≡ Some (record { op = p; outcome = outcome }) → meets mask wanted outcome ≡ false
+  -- a write that has a word has landed, once it has ended and the run is complete
+  pub writes : (h : List Event) (w : OpId) → is_write board w ≡ true → words_named board w ≢ [] → Run board h → Complete board h → has_ended h w ≡ true → has_landed h w ≡ true
   -- an operation that has no line since it is not reached is never done
   pub unreached : (h : List Event) (o : OpId) (on : ℕ) (by : By) (step : Step) (place : Place) → is_reached board table o ≡ false →
       Run board (Act on by o step place ∷ h) → ⊥

@@ -12,7 +12,10 @@ use crate::safe::counts::{counts_of, ending_of};
 use crate::safe::text::safe_text;
 use board_model::Board;
 use board_tree::Tree;
-use law_safe::{said_safe_returns, said_vain_is_not_met, unreached_is_never_done};
+use law_safe::{
+    ended_writes_land, lost_never_lands, nowhere_never_reads, said_safe_returns,
+    said_vain_is_not_met, unreached_is_never_done,
+};
 use law_untagged::{apart_is_tested, apart_runs_are_alike};
 use program_input::read_protocol;
 use program_status::{Answered, Status};
@@ -49,7 +52,10 @@ fn said_by_table(alloc: Global, tree: &Tree, table: &ClockTable) -> Result<Answe
     ensures err { IfErr result (λ status. status ≡ Status.NoMemory) }
 {
     said_safe_returns();
+    lost_never_lands();
+    nowhere_never_reads();
     said_vain_is_not_met();
+    ended_writes_land();
     unreached_is_never_done();
     apart_runs_are_alike();
     apart_is_tested();

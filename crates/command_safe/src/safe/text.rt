@@ -4,13 +4,12 @@ ghost use Rattle.board_printer.specs.Numbers.{address_text};
 ghost use Rattle.safe_table.specs.AllSaid.{verdict, line};
 ghost use Rattle.command_safe.specs.safe.Counts.{counts_of};
 ghost use Rattle.command_safe.specs.safe.Lines.{place_word, dword_words, said_words, said_line};
-ghost use Rattle.command_safe.specs.safe.Lines.{said_lines, count_line, lines_of};
+ghost use Rattle.command_safe.specs.safe.Lines.{said_lines, further, count_line, lines_of};
 
-use crate::safe::counts::Counts;
 use board_model::{Board, Word};
 use board_printer::{HexWord, space_word};
 use pci_command::OpId;
-use program_status::Status;
+use program_status::{SafeCounts, Status};
 use safe_table::{OpSaid, Said};
 use std::alloc::{AllocError, Global};
 use trace_text::{master_name, target_name};
@@ -22,7 +21,7 @@ pub(crate) fn safe_text(
     board: &Board,
     said: &[OpSaid],
     apart: bool,
-    counts: Counts,
+    counts: SafeCounts,
 ) -> Result<Vec<u8>, Status>
     requires { counts ≡ counts_of (map line said.now) }
     ensures ok { IfOk result (λ text. text.items ≡ lines_of board.now (map line said.now) apart) }
@@ -40,7 +39,7 @@ fn print_safe(
     board: &Board,
     said: &[OpSaid],
     apart: bool,
-    counts: Counts,
+    counts: SafeCounts,
 ) -> Result<(), AllocError>
     requires { counts ≡ counts_of (map line said.now) }
     ensures { OnOk result (string_bytes text.new
@@ -89,6 +88,8 @@ fn print_said(text: &mut String, board: &Board, said: Said) -> Result<(), AllocE
         }
         Said::Lost { aborted: true } => text.push_str(" lost abort"),
         Said::Lost { aborted: false } => text.push_str(" lost nobody"),
+        Said::Nowhere { aborted: true } => text.push_str(" abort"),
+        Said::Nowhere { aborted: false } => text.push_str(" nobody"),
         Said::Vain => text.push_str(" vain"),
         Said::Loose => text.push_str(" loose"),
     }
@@ -127,14 +128,29 @@ fn print_address(text: &mut String, address: u128) -> Result<(), AllocError>
     }
 }
 
-fn print_counts(text: &mut String, counts: Counts) -> Result<(), AllocError>
+fn print_counts(text: &mut String, counts: SafeCounts) -> Result<(), AllocError>
     ensures { OnOk result (string_bytes text.new
         ≡ string_bytes text.old ++ line_text (count_line counts)) }
 {
-    let Counts {
+    let SafeCounts {
         unsafe_reads,
         lost,
         vain,
+        nowhere,
     } = counts;
-    writeln!(text, "unsafe {unsafe_reads} lost {lost} vain {vain}")
+    write!(text, "unsafe {unsafe_reads} lost {lost} vain {vain}")?;
+    print_further(text, "nowhere", nowhere)?;
+    writeln!(text)
+}
+
+/// A count that is told only where it is not 0.
+fn print_further(text: &mut String, name: &str, count: u32) -> Result<(), AllocError>
+    ensures { OnOk result (string_bytes text.new
+        ≡ string_bytes text.old ++ spaced (further name.now count) []) }
+{
+    if count == 0 {
+        Ok(())
+    } else {
+        write!(text, " {name} {count}")
+    }
 }

@@ -155,12 +155,20 @@ module _ (board : Board) (valid : IsValid board) (table : Table) (consistent : I
       let same : merged word (opens_as board word) landings ≡ merged word (opens_as board word) safe.members = folds word safe.members landings (opens_as board word) ones some apart in
       returned_held board h r reading valid run is_got ∙ ap (λ d. Some (value_of board before d)) is_word ∙ ap Some (same ∙ sym safe.is_value)
 
-pub safe_returns : (board : Board) (table : Table) (h : List Event) (r : OpId) (value : ℕ) → IsValid board → IsConsistent board table → IsSafe board table r value → Run board h → has_ended h r ≡ true → given_value h r ≡ Some value
-safe_returns board table h r value valid consistent safe run ended_it =
+-- it read its word
+pub safe_reads : (board : Board) (table : Table) (h : List Event) (r : OpId) (value : ℕ) → IsValid board → (safe : IsSafe board table r value) → Run board h → has_ended h r ≡ true
+    → (reading : Reading) × (got board h r ≡ Some reading) × (reading.word ≡ safe.word)
+safe_reads board table h r value valid safe run ended_it =
     let some_words : words_named board r ≢ [] = λ none. (let e : safe.word ∷ [] ≡ [] = sym safe.has_word ∙ none in cc) in
     let some : is_some (got board h r) ≡ true = always_got board h r valid run safe.reads_it some_words ended_it in
-    let P : Option Reading → Type 0 = λ found. got board h r ≡ found → is_some found ≡ true → given_value h r ≡ Some value in
+    let Goal : Type 0 = (reading : Reading) × (got board h r ≡ Some reading) × (reading.word ≡ safe.word) in
+    let P : Option Reading → Type 0 = λ found. got board h r ≡ found → is_some found ≡ true → Goal in
     (elim (got board h r) as P [
       | None ↦ λ _ f. cc
-      | Some reading ↦ λ is_got _. returns board valid table consistent r value safe h run reading is_got
+      | Some reading ↦ λ is_got _. (reading, is_got, read_word board h r reading safe.word [] valid (read_at board h r reading valid run is_got) safe.has_word)
     ]) refl some
+
+pub safe_returns : (board : Board) (table : Table) (h : List Event) (r : OpId) (value : ℕ) → IsValid board → IsConsistent board table → IsSafe board table r value → Run board h → has_ended h r ≡ true → given_value h r ≡ Some value
+safe_returns board table h r value valid consistent safe run ended_it =
+    let it = safe_reads board table h r value valid safe run ended_it in
+    returns board valid table consistent r value safe h run it.0 it.1

@@ -1,8 +1,9 @@
 -- What is said of an operation, by the largest table, is so in every run.
-use Rattle.std.proofs.Common.{◌≡◌, ◌≢◌, ℕ, ◌<◌, Bool, true, false, not, ◌&&◌, cond, List, [], ◌∷◌, Option, Some, None, refl, sym, ap, subst, ◌∙◌, arith, slice_get, ◌⊎◌, inl, inr, ⊎_elim}
-use Rattle.std.specs.List.{find, list_any, AllByRecursion}
+use Rattle.std.proofs.Common.{◌≡◌, ◌≢◌, ℕ, ◌<◌, Bool, true, false, not, ◌&&◌, cond, List, [], ◌∷◌, Option, Some, None, refl, sym, ap, subst, ◌∙◌, arith, slice_get, ◌⊎◌, inl, inr, ⊎_elim, nat_lt}
+use Rattle.std.specs.List.{find, list_all, list_any, AllByRecursion}
 use Rattle.std.specs.Option.{option_or}
 use Rattle.std.proofs.lemmas.Bool.{and_parts}
+use Rattle.std.proofs.lemmas.Bool.Decides.{nat_tests}
 use Rattle.pci_command.specs.declared.command.Command.{Command}
 use Rattle.pci_command.specs.declared.command.Command.TheVariants.{IoRead, IoWrite, MemRead, MemWrite, CfgRead as ConfigurationRead, CfgWrite as ConfigurationWrite, MemReadMultiple, MemReadLine, MemWriteInvalidate}
 use Rattle.pci_command.specs.declared.command.Space.{Space}
@@ -16,27 +17,28 @@ use Rattle.board_model.specs.declared.bridge.Place.TheVariants.{Target, Header, 
 use Rattle.board_model.specs.declared.op.Op.{Op}
 use Rattle.board_model.specs.declared.op.Op.TheVariants.{Read, Write, CfgRead, CfgWrite, Poll}
 use Rattle.board_model.specs.declared.board.Board.{Board}
-use Rattle.board_model.specs.Requests.{op_of, reads_in}
+use Rattle.board_model.specs.Requests.{op_of, reads_in, tries_of}
 use Rattle.board_model.specs.Ways.{Dword, dwords_from}
 use Rattle.board_model.specs.Valid.{IsValid}
 use Rattle.board_model.specs.WellFormed.{is_well_formed_op, is_well_formed_read, read_space}
-use Rattle.board_model.proofs.Laws.{op_formed}
+use Rattle.board_model.proofs.Laws.{op_formed, op_there}
 use Rattle.history_model.specs.declared.event.Event.{Event}
 use Rattle.history_model.specs.Program.{ended, meets}
-use Rattle.history_model.specs.Knowledge.{words_named, is_landing_of, has_ended, given_value}
+use Rattle.history_model.specs.Words.{opens_as}
+use Rattle.history_model.specs.Knowledge.{Reading, got, given_value, words_on, words_named, is_landing_of, has_ended}
 use Rattle.history_model.specs.Runs.{Run}
 use Rattle.list_facts.proofs.EachLemmas.{Each-all, Each-weaker}
 use Rattle.list_facts.proofs.FindLemmas.{find-none_any}
 use Rattle.history_model.proofs.facts.RequestLemmas.{same_op_self}
 use Rattle.safe_model.specs.Ops.{ops_by}
-use Rattle.safe_model.specs.Raisers.{Raises, phases_to, phases_in}
-use Rattle.safe_model.specs.Clocks.{Table, is_poll, clock_of, IsBefore, LeftOut, Awaits}
+use Rattle.safe_model.specs.Raisers.{Raises, IsLastWord, is_met_by, is_plain, is_whole, phases_to, phases_in}
+use Rattle.safe_model.specs.Clocks.{Table, is_poll, at_place, clock_of, IsBefore, WritesBefore, LeftOut, OpensOut, Awaits}
 use Rattle.safe_model.specs.Safe.{IsSafe}
 use Rattle.safe_model.specs.Vain.{IsVain}
 use Rattle.safe_model.specs.largest.Tests.{is_before, is_reached, brings, writes_of, Wish, wish_of, raises, is_firm, opens_out, is_told, is_left_out, raisers}
 use Rattle.safe_model.specs.largest.Largest.{IsLargest}
-use Rattle.safe_model.specs.said.Said.{Said, safe, vain, loose, members, members_before, is_beside, is_open, first_beside, in_order, all_landings, left_by, said_beside, said_of_read, said_lost, owner_of, said_of_write, said_of_poll, said_as, said_of}
-use Rattle.law_safe.proofs.safe.SafeLemmas.{safe_returns}
+use Rattle.safe_model.specs.said.Said.{Said, safe, vain, loose, nowhere, said_nowhere, members, members_before, is_beside, is_open, first_beside, in_order, all_landings, left_by, said_beside, said_of_read, said_lost, owner_of, said_of_write, said_of_poll, said_as, said_of}
+use Rattle.law_safe.proofs.safe.SafeLemmas.{safe_returns, safe_reads}
 use Rattle.law_safe.proofs.vain.VainLemmas.{never_met}
 use Rattle.safe_model.proofs.largest.TestLemmas.{either_way, not_both, any_of, any_both, some_write, brings_writes, brings_some, some_brings, before_is, left_is, opens_is, raises_brings, firm_is}
 use Rattle.safe_model.proofs.largest.ConsistentLemmas.{has_wish}
@@ -50,6 +52,20 @@ pub not_reached : (board : Board) (table : Table) (o : OpId) → is_reached boar
 not_reached board table o none =
     let P : Bool → Type 0 = λ b. not b ≡ false → b ≡ true in
     before_is board table o o ((elim (is_before board table o o) as P [ true ↦ λ _. refl | false ↦ λ e. cc ]) none)
+
+-- What is said of a read or a poll without a word.
+
+pub nowhere_is : (place : Place) (said : Said) → said_nowhere place ≡ Some said → (aborted : Bool) × (said ≡ nowhere aborted)
+nowhere_is (Target target) said e = let same : nowhere true ≡ said = cc in (true, sym same)
+nowhere_is (Header bus) said e = cc
+nowhere_is (Lane lane) said e = cc
+nowhere_is Nobody said e = let same : nowhere false ≡ said = cc in (false, sym same)
+
+pub nowhere_or_loose : (place : Place) (said : Said) → option_or (said_nowhere place) (Some loose) ≡ Some said → (said ≡ loose) ⊎ ((aborted : Bool) × (said ≡ nowhere aborted))
+nowhere_or_loose (Target target) said e = let same : nowhere true ≡ said = cc in inr (true, sym same)
+nowhere_or_loose (Header bus) said e = let same : loose ≡ said = cc in inl (sym same)
+nowhere_or_loose (Lane lane) said e = let same : loose ≡ said = cc in inl (sym same)
+nowhere_or_loose Nobody said e = let same : nowhere false ≡ said = cc in inr (false, sym same)
 
 -- A read that is said to be safe.
 
@@ -75,7 +91,7 @@ read_reads MemReadLine address formed = refl
 read_reads MemWriteInvalidate address formed = cc
 
 -- of words in a row for one data phase there is one at most
-row_single : (phase : Phase) (word : Dword) (words : List Dword) → InRow (word ∷ words) (phase ∷ []) → words ≡ []
+pub row_single : (phase : Phase) (word : Dword) (words : List Dword) → InRow (word ∷ words) (phase ∷ []) → words ≡ []
 row_single phase word words row =
     ⊎_elim {C = words ≡ []}
     (λ (none : ◌≡◌ {A = List Dword} (word ∷ words) []). cc)
@@ -95,8 +111,11 @@ module _ (board : Board) (table : Table) (r : OpId) where
   beside_safe here word value (Some w) is e = cc
 
   read_safe : (op : Op) (phase : Phase) (word : Dword) (value : ℕ) → op_of board r ≡ Some op → phases_in (Some op) ≡ phase ∷ [] → is_poll (Some op) ≡ false → (is_well_formed_op op ≡ true → reads_in (Some op) ≡ true) → (words : List Dword) → words_named board r ≡ words
-      → said_of_read board table r words ≡ Some (safe word value) → SaidSafe board table r word value
-  read_safe op phase word value is_op one no_poll read_it [] is e = cc
+      → said_of_read board table r op words ≡ Some (safe word value) → SaidSafe board table r word value
+  read_safe op phase word value is_op one no_poll read_it [] is e =
+      let it = nowhere_is (owner_of board r op (slice_get board.masters r.master)) (safe word value) e in
+      let no : safe word value ≡ nowhere it.0 = it.1 in
+      cc
   read_safe op phase word value is_op one no_poll read_it (here ∷ words) is e =
       let same : said_beside board table here r (first_beside board table here r) ≡ safe word value = cc in
       let it = beside_safe here word value (first_beside board table here r) refl same in
@@ -124,9 +143,13 @@ module _ (board : Board) (table : Table) (r : OpId) where
   write_none op [] word value e X = lost_none (owner_of board r op (slice_get board.masters r.master)) word value e X
   write_none op (here ∷ words) word value e X = cc
 
-  poll_none : (wish : Option Wish) (word : Dword) (value : ℕ) → said_of_poll board table r wish ≡ Some (safe word value) → (X : Type 0) → X
-  poll_none None word value e X = cc
-  poll_none (Some wish) word value e X =
+  poll_none : (op : Op) (wish : Option Wish) (word : Dword) (value : ℕ) → said_of_poll board table r op wish ≡ Some (safe word value) → (X : Type 0) → X
+  poll_none op None word value e X =
+      ⊎_elim {C = X}
+      (λ (is : safe word value ≡ loose). cc)
+      (λ (it : (aborted : Bool) × (safe word value ≡ nowhere aborted)). let no : safe word value ≡ nowhere it.0 = it.1 in cc)
+      (nowhere_or_loose (owner_of board r op (slice_get board.masters r.master)) (safe word value) e)
+  poll_none op (Some wish) word value e X =
       let some : Bool = list_any (is_reached board table) (raisers board table r wish) in
       let Q : Bool → Type 0 = λ b. cond b None (Some vain) ≡ Some (safe word value) → X in
       let P : Bool → Type 0 = λ b. cond b (cond some None (Some vain)) (Some loose) ≡ Some (safe word value) → X in
@@ -141,7 +164,7 @@ module _ (board : Board) (table : Table) (r : OpId) where
   as_safe (Some (Write command address phases)) is_op word value e = write_none (Write command address phases) (words_named board r) word value e (SaidSafe board table r word value)
   as_safe (Some (CfgRead bus device register)) is_op word value e = read_safe (CfgRead bus device register) (record { value = 0; enables = 15 }) word value is_op refl refl (λ _. refl) (words_named board r) refl e
   as_safe (Some (CfgWrite bus device register phase)) is_op word value e = write_none (CfgWrite bus device register phase) (words_named board r) word value e (SaidSafe board table r word value)
-  as_safe (Some (Poll space address mask wanted tries)) is_op word value e = poll_none (wish_of board r) word value e (SaidSafe board table r word value)
+  as_safe (Some (Poll space address mask wanted tries)) is_op word value e = poll_none (Poll space address mask wanted tries) (wish_of board r) word value e (SaidSafe board table r word value)
 
   -- what something is said of is reached
   reached_said : (said : Said) → said_of board table r ≡ Some said → said_as board table r (op_of board r) ≡ Some said
@@ -241,9 +264,19 @@ pub said_is_safe : (board : Board) (table : Table) (r : OpId) (word : Dword) (va
 said_is_safe board table r word value valid is_largest said =
     is_safe board valid table is_largest r word value (as_safe board table r (op_of board r) refl word value (reached_said board table r (safe word value) said))
 
-pub said_returns : (board : Board) (table : Table) (h : List Event) (r : OpId) (word : Dword) (value : ℕ) → IsValid board → IsLargest board table → said_of board table r ≡ Some (safe word value) → Run board h → has_ended h r ≡ true → given_value h r ≡ Some value
+-- its word is the one that is told
+said_word : (board : Board) (table : Table) (r : OpId) (word : Dword) (value : ℕ) (safe_here : IsSafe board table r value) → said_of board table r ≡ Some (safe word value) → safe_here.word ≡ word
+said_word board table r word value safe_here said =
+    let it : SaidSafe board table r word value = as_safe board table r (op_of board r) refl word value (reached_said board table r (safe word value) said) in
+    let e : safe_here.word ∷ [] ≡ word ∷ [] = sym safe_here.has_word ∙ it.has_word in
+    cc
+
+pub said_returns : (board : Board) (table : Table) (h : List Event) (r : OpId) (word : Dword) (value : ℕ) → IsValid board → IsLargest board table → said_of board table r ≡ Some (safe word value) → Run board h → has_ended h r ≡ true
+    → (reading : Reading) × (got board h r ≡ Some reading) × (reading.word ≡ word) × (given_value h r ≡ Some value)
 said_returns board table h r word value valid is_largest said run ends =
-    safe_returns board table h r value valid is_largest.consistent (said_is_safe board table r word value valid is_largest said) run ends
+    let safe_here : IsSafe board table r value = said_is_safe board table r word value valid is_largest said in
+    let it = safe_reads board table h r value valid safe_here run ends in
+    (it.0, it.1, it.2 ∙ said_word board table r word value safe_here said, safe_returns board table h r value valid is_largest.consistent safe_here run ends)
 
 -- A poll that is said to be vain.
 
@@ -252,9 +285,13 @@ module _ (board : Board) (table : Table) (p : OpId) where
   abbrev SaidVain : Type 0
   SaidVain = (wish : Wish) × (wish_of board p ≡ Some wish) × ((is_firm board wish && opens_out board table p wish) ≡ true) × (list_any (is_reached board table) (raisers board table p wish) ≡ false)
 
-  poll_vain : (found : Option Wish) → wish_of board p ≡ found → said_of_poll board table p found ≡ Some vain → SaidVain
-  poll_vain None is e = cc
-  poll_vain (Some wish) is e =
+  poll_vain : (op : Op) (found : Option Wish) → wish_of board p ≡ found → said_of_poll board table p op found ≡ Some vain → SaidVain
+  poll_vain op None is e =
+      ⊎_elim {C = SaidVain}
+      (λ (no : vain ≡ loose). cc)
+      (λ (it : (aborted : Bool) × (vain ≡ nowhere aborted)). let no : vain ≡ nowhere it.0 = it.1 in cc)
+      (nowhere_or_loose (owner_of board p op (slice_get board.masters p.master)) vain e)
+  poll_vain op (Some wish) is e =
       let some : Bool = list_any (is_reached board table) (raisers board table p wish) in
       let told : Bool = is_firm board wish && opens_out board table p wish in
       let Q : Bool → Type 0 = λ b. some ≡ b → cond b None (Some vain) ≡ Some vain → told ≡ true → SaidVain in
@@ -268,9 +305,12 @@ module _ (board : Board) (table : Table) (p : OpId) where
   beside_vain here None e = cc
   beside_vain here (Some w) e = cc
 
-  read_vain : (words : List Dword) → said_of_read board table p words ≡ Some vain → SaidVain
-  read_vain [] e = cc
-  read_vain (here ∷ words) e = let same : said_beside board table here p (first_beside board table here p) ≡ vain = cc in beside_vain here (first_beside board table here p) same
+  read_vain : (op : Op) (words : List Dword) → said_of_read board table p op words ≡ Some vain → SaidVain
+  read_vain op [] e =
+      let it = nowhere_is (owner_of board p op (slice_get board.masters p.master)) vain e in
+      let no : vain ≡ nowhere it.0 = it.1 in
+      cc
+  read_vain op (here ∷ words) e = let same : said_beside board table here p (first_beside board table here p) ≡ vain = cc in beside_vain here (first_beside board table here p) same
 
   lost_vain : (place : Place) → said_lost place ≡ Some vain → SaidVain
   lost_vain (Target target) e = cc
@@ -284,11 +324,11 @@ module _ (board : Board) (table : Table) (p : OpId) where
 
   as_vain : (found : Option Op) → said_as board table p found ≡ Some vain → SaidVain
   as_vain None e = cc
-  as_vain (Some (Read command address)) e = read_vain (words_named board p) e
+  as_vain (Some (Read command address)) e = read_vain (Read command address) (words_named board p) e
   as_vain (Some (Write command address phases)) e = write_vain (Write command address phases) (words_named board p) e
-  as_vain (Some (CfgRead bus device register)) e = read_vain (words_named board p) e
+  as_vain (Some (CfgRead bus device register)) e = read_vain (CfgRead bus device register) (words_named board p) e
   as_vain (Some (CfgWrite bus device register phase)) e = write_vain (CfgWrite bus device register phase) (words_named board p) e
-  as_vain (Some (Poll space address mask wanted tries)) e = poll_vain (wish_of board p) refl e
+  as_vain (Some (Poll space address mask wanted tries)) e = poll_vain (Poll space address mask wanted tries) (wish_of board p) refl e
 
   is_vain : SaidVain → (mask : ℕ) × (wanted : ℕ) × IsVain board table p mask wanted
   is_vain said =
@@ -322,6 +362,53 @@ module _ (board : Board) (table : Table) (p : OpId) where
         },
       )
 
+-- A poll is one by each of its tries.
+
+-- where a try is there the first one is
+pub first_op : (board : Board) (p : OpId) (op : Op) → op_of board p ≡ Some op → op_of board (at_place p.master p.index) ≡ Some op
+first_op board p op is =
+    let there = op_there board p op is in
+    let tried = there.tried in
+    let some : nat_lt 0 (tries_of op) ≡ true = grind (arith, nat_tests) in
+    let is_master : slice_get board.masters p.master ≡ Some there.master = there.is_master in
+    let is_op : slice_get there.master.ops p.index ≡ Some op = there.is_op in
+    rw (is_master, is_op, some) refl
+
+-- and names the same words
+pub first_words : (board : Board) (p : OpId) (op : Op) → op_of board p ≡ Some op → words_named board p ≡ words_named board (at_place p.master p.index)
+first_words board p op is = ap (λ found. words_on board found (slice_get board.masters p.master)) (is ∙ sym (first_op board p op is))
+
+module _ (board : Board) (table : Table) (p : OpId) (word : Dword) where
+  first_before : (x : OpId) → WritesBefore board table (at_place p.master p.index) word x → WritesBefore board table p word x
+  first_before x is = record { writes = is.writes; brings = is.brings; before = is.before }
+
+  first_left : (f : OpId) → LeftOut board table (at_place p.master p.index) word f → LeftOut board table p word f
+  first_left f is = record { x = is.x; earlier = first_before is.x is.earlier; other = is.other; no_more = is.no_more }
+
+  first_vain : (mask wanted : ℕ) (op : Op) → op_of board p ≡ Some op → Awaits board p mask wanted → (is : IsVain board table (at_place p.master p.index) mask wanted) → is.word ≡ word → IsVain board table p mask wanted
+  first_vain mask wanted op is_op awaits is here =
+      let L : Dword → Type 0 = λ d. (f : OpId) → Raises board mask wanted d f → LeftOut board table (at_place p.master p.index) d f ⊎ IsBefore board table f f in
+      let none : L word = subst L here is.raisers in
+      let named : words_named board (at_place p.master p.index) ≡ word ∷ [] = is.firm.has_word ∙ ap (λ d. d ∷ []) here in
+      record {
+        awaits = awaits;
+        word = word;
+        firm = record {
+          has_word = first_words board p op is_op ∙ named;
+          plain = subst (λ d. is_plain d.space ≡ true) here is.firm.plain;
+          whole = subst (λ d. (f : OpId) → list_all (is_whole mask) (phases_to board d f) ≡ true) here is.firm.whole;
+          last = subst (λ d. (f : OpId) → Raises board mask wanted d f → IsLastWord board d f) here is.firm.last;
+        };
+        opens = ⊎_elim {C = OpensOut board table p mask wanted word}
+            (λ (out : is_met_by mask wanted (opens_as board word) ≡ false). inl out)
+            (λ (some : (x : OpId) × WritesBefore board table (at_place p.master p.index) word x). inr (some.0, first_before some.0 some.1))
+            (subst (OpensOut board table (at_place p.master p.index) mask wanted) here is.opens);
+        raisers = λ f raises_it. ⊎_elim {C = LeftOut board table p word f ⊎ IsBefore board table f f}
+            (λ (left : LeftOut board table (at_place p.master p.index) word f). inl (first_left f left))
+            (λ (unreached : IsBefore board table f f). inr unreached)
+            (none f raises_it);
+      }
+
 same_awaits : (board : Board) (p : OpId) (m w mask wanted : ℕ) → Awaits board p m w → Awaits board p mask wanted → (X : ℕ → ℕ → Type 0) → X m w → X mask wanted
 same_awaits board p m w mask wanted it awaits X is =
     let e : ◌≡◌ {A = Option Op} (Some (Poll it.0 it.1 m w it.2)) (Some (Poll awaits.0 awaits.1 mask wanted awaits.2)) = sym it.3 ∙ awaits.3 in
@@ -329,9 +416,13 @@ same_awaits board p m w mask wanted it awaits X is =
     let wants : w ≡ wanted = cc in
     subst (λ n. X n wanted) masks (subst (X m) wants is)
 
-pub said_not_met : (board : Board) (table : Table) (e : Event) (h : List Event) (p : OpId) (mask wanted : ℕ) (outcome : Outcome) → IsValid board → IsLargest board table → said_of board table p ≡ Some vain → Awaits board p mask wanted → Run board (e ∷ h)
+pub said_not_met : (board : Board) (table : Table) (e : Event) (h : List Event) (p : OpId) (mask wanted : ℕ) (outcome : Outcome) → IsValid board → IsLargest board table → said_of board table (at_place p.master p.index) ≡ Some vain → Awaits board p mask wanted → Run board (e ∷ h)
     → ended e ≡ Some (record { op = p; outcome = outcome }) → meets mask wanted outcome ≡ false
 said_not_met board table e h p mask wanted outcome valid is_largest said awaits run ends =
-    let it = is_vain board table p (as_vain board table p (op_of board p) (reached_said board table p vain said)) in
-    let is : IsVain board table p mask wanted = same_awaits board p it.0 it.1 mask wanted it.2.awaits awaits (λ m w. IsVain board table p m w) it.2 in
+    let first : OpId = at_place p.master p.index in
+    let op : Op = Poll awaits.0 awaits.1 mask wanted awaits.2 in
+    let first_awaits : Awaits board first mask wanted = (awaits.0, awaits.1, awaits.2, first_op board p op awaits.3) in
+    let it = is_vain board table first (as_vain board table first (op_of board first) (reached_said board table first vain said)) in
+    let is_first : IsVain board table first mask wanted = same_awaits board first it.0 it.1 mask wanted it.2.awaits first_awaits (λ m w. IsVain board table first m w) it.2 in
+    let is : IsVain board table p mask wanted = first_vain board table p is_first.word mask wanted op awaits.3 awaits is_first refl in
     never_met board valid table is_largest.consistent e h p mask wanted outcome is run ends

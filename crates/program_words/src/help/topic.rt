@@ -223,5 +223,5 @@ const STATUS: &str = "pcitree help status: how it ends\n\
     7   the text of the trace or log has a fault\n\
     8   an event is not allowed, or what a line of the log shows\n\
     9   the run has not ended\n\
-    10  not safe: a read, a lost write or a vain poll is listed\n\
+    10  not safe: a read, a write or a poll is listed that is at fault\n\
     11  no adverse run was found, which shows nothing\n";

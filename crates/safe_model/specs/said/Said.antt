@@ -26,6 +26,8 @@ pub data Said : Type 0 where
   unsafe : (word : Dword) → (beside : OpId) → Said
   -- nobody takes the write, or its target aborts it
   lost : (aborted : Bool) → Said
+  -- nobody takes the read or the poll, or its target aborts it, so that it reads no word
+  nowhere : (aborted : Bool) → Said
   -- no run meets the poll
   vain : Said
   -- what meets the poll tells it of nothing
@@ -85,10 +87,22 @@ abbrev pub said_beside : Board → Table → Dword → OpId → Option OpId → 
 said_beside board table word r None = safe word (left_by board word (in_order board table (members_before board table word r)))
 said_beside board table word r (Some w) = unsafe word w
 
+-- who claims an operation at the end of its way
+abbrev pub owner_of : Board → OpId → Op → Option Master → Place
+owner_of board o op None = Nobody
+owner_of board o op (Some master) = (route_of board op master.bus).owner
+
+-- of a read or a poll without a word, by who claims it at the end of its way: the header of a bridge answers it
+abbrev pub said_nowhere : Place → Option Said
+said_nowhere (Target target) = Some (nowhere true)
+said_nowhere (Header bus) = None
+said_nowhere (Lane lane) = None
+said_nowhere Nobody = Some (nowhere false)
+
 -- of a read that is no poll, by its word
-abbrev pub said_of_read : Board → Table → OpId → List Dword → Option Said
-said_of_read board table r [] = None
-said_of_read board table r (word ∷ words) = Some (said_beside board table word r (first_beside board table word r))
+abbrev pub said_of_read : Board → Table → OpId → Op → List Dword → Option Said
+said_of_read board table r op [] = said_nowhere (owner_of board r op (slice_get board.masters r.master))
+said_of_read board table r op (word ∷ words) = Some (said_beside board table word r (first_beside board table word r))
 
 -- of a write without a word, by who claims it at the end of its way
 abbrev pub said_lost : Place → Option Said
@@ -97,20 +111,15 @@ said_lost (Header bus) = None
 said_lost (Lane lane) = None
 said_lost Nobody = Some (lost false)
 
--- who claims an operation at the end of its way
-abbrev pub owner_of : Board → OpId → Op → Option Master → Place
-owner_of board o op None = Nobody
-owner_of board o op (Some master) = (route_of board op master.bus).owner
-
 -- of a write: one that has a word has no line
 abbrev pub said_of_write : Board → OpId → Op → List Dword → Option Said
 said_of_write board w op [] = said_lost (owner_of board w op (slice_get board.masters w.master))
 said_of_write board w op (word ∷ words) = None
 
--- of a poll: none of what can meet it is ever done, or it is told of nothing
-abbrev pub said_of_poll : Board → Table → OpId → Option Wish → Option Said
-said_of_poll board table p None = Some loose
-said_of_poll board table p (Some wish) =
+-- of a poll: it reads no word, it is told of nothing, or none of what can meet it is ever done
+abbrev pub said_of_poll : Board → Table → OpId → Op → Option Wish → Option Said
+said_of_poll board table p op None = option_or (said_nowhere (owner_of board p op (slice_get board.masters p.master))) (Some loose)
+said_of_poll board table p op (Some wish) =
     if is_told board table p (Some wish)
     then (if list_any (is_reached board table) (raisers board table p wish) then None else Some vain)
     else Some loose
@@ -118,11 +127,11 @@ said_of_poll board table p (Some wish) =
 -- of an operation that was found
 abbrev pub said_as : Board → Table → OpId → Option Op → Option Said
 said_as board table o None = None
-said_as board table o (Some (Read command address)) = said_of_read board table o (words_named board o)
+said_as board table o (Some (Read command address)) = said_of_read board table o (Read command address) (words_named board o)
 said_as board table o (Some (Write command address phases)) = said_of_write board o (Write command address phases) (words_named board o)
-said_as board table o (Some (CfgRead bus device register)) = said_of_read board table o (words_named board o)
+said_as board table o (Some (CfgRead bus device register)) = said_of_read board table o (CfgRead bus device register) (words_named board o)
 said_as board table o (Some (CfgWrite bus device register phase)) = said_of_write board o (CfgWrite bus device register phase) (words_named board o)
-said_as board table o (Some (Poll space address mask wanted tries)) = said_of_poll board table o (wish_of board o)
+said_as board table o (Some (Poll space address mask wanted tries)) = said_of_poll board table o (Poll space address mask wanted tries) (wish_of board o)
 
 -- of an operation that some run may come to; of others nothing
 abbrev pub said_of : Board → Table → OpId → Option Said

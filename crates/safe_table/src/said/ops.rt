@@ -9,7 +9,7 @@ ghost use Rattle.safe_table.specs.AllSaid.{verdict};
 ghost use Rattle.safe_table.specs.Members.{IsSeen, KeepsMembers};
 
 use crate::said::looks::Looks;
-use crate::said::lost::said_of_lost;
+use crate::said::lost::{said_of_lost, said_of_nowhere};
 use crate::said::members::Members;
 use crate::said::order::is_reached;
 use crate::said::polls::said_of_poll;
@@ -62,13 +62,13 @@ fn said_of_reached(
     let board = looks.tree.board();
     match op_of(board, op) {
         None => Ok(None),
-        Some(Op::Read { .. } | Op::CfgRead { .. }) => {
-            said_of_named(members, alloc, looks, op, first_named(board, op))
+        Some(found @ (Op::Read { .. } | Op::CfgRead { .. })) => {
+            said_of_named(members, alloc, looks, op, found, first_named(board, op))
         }
         Some(found @ (Op::Write { .. } | Op::CfgWrite { .. })) => {
             Ok(said_of_write(looks, op, found))
         }
-        Some(Op::Poll { .. }) => said_of_poll(alloc, looks, op),
+        Some(found @ Op::Poll { .. }) => said_of_poll(alloc, looks, op, found),
     }
 }
 
@@ -78,18 +78,19 @@ fn said_of_named(
     alloc: Global,
     looks: &Looks,
     read: OpId,
+    op: &Op,
     word: Option<Word>,
 ) -> Result<Option<Said>, NoMemory>
     requires seen { IsSeen looks.now.tree.now looks.now.table.now looks.now.writers.now
         looks.now.polls.now }
     requires kept { KeepsMembers looks.now.tree.now (table_of looks.now.table.now) members.old }
     ensures said { IfOk result (λ said. option_map verdict said ≡ said_of_read looks.now.tree.now
-        (table_of looks.now.table.now) read (words_from word read_phases)) }
+        (table_of looks.now.table.now) read op.now (words_from word read_phases)) }
     ensures kept { OnOk result (KeepsMembers looks.now.tree.now (table_of looks.now.table.now)
         members.new) }
 {
     match word {
-        None => Ok(None),
+        None => Ok(said_of_nowhere(looks.tree.board(), read, op)),
         Some(word) => {
             members.list(alloc, looks, word)?;
             match members.of(word) {

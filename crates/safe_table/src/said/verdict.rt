@@ -10,6 +10,8 @@ pub enum Said {
     Unsafe { word: Word, beside: OpId },
     /// Nobody takes the write, or its target aborts it.
     Lost { aborted: bool },
+    /// Nobody takes the read or the poll, or its target aborts it, so that it reads no word.
+    Nowhere { aborted: bool },
     /// No run meets the poll.
     Vain,
     /// What meets the poll tells it of nothing.

@@ -1,0 +1,4 @@
+pub mod LostLemmas
+pub mod NowhereLemmas
+pub mod WholeLemmas
+pub mod Laws
