@@ -21,7 +21,7 @@ use Rattle.safe_model.specs.largest.Largest.{IsLargest}
 use Rattle.safe_model.specs.said.Said.{safe, vain, said_of}
 use Rattle.program_status.specs.declared.status.Status.{Status}
 use Rattle.program_input.specs.Protocols.{ReadsProtocol}
-use Rattle.safe_table.specs.AllSaid.{all_said}
+use Rattle.safe_said.specs.AllSaid.{all_said}
 use Rattle.command_safe.specs.safe.Counts.{counts_of, ending_of}
 use Rattle.command_safe.specs.safe.Lines.{safe_text}
 

@@ -3,7 +3,7 @@ use Rattle.std.specs.Prelude.{Bool, true, false, ◌==◌, ◌&&◌, if◌then�
 use Rattle.safe_model.specs.said.Said.{Said, safe, unsafe, lost, vain, loose}
 use Rattle.program_status.specs.declared.status.Status.{Status}
 use Rattle.program_status.specs.declared.status.Status.TheVariants.{Done, NotSafe}
-use Rattle.safe_table.specs.AllSaid.{Line as OpVerdict}
+use Rattle.safe_said.specs.AllSaid.{Line as OpVerdict}
 use Rattle.command_safe.specs.declared.safe.counts.Counts.{Counts}
 
 -- that a read is unsafe

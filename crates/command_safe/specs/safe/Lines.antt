@@ -12,7 +12,7 @@ use Rattle.law_untagged.specs.ApartTest.{is_apart}
 use Rattle.safe_model.specs.Clocks.{Table}
 use Rattle.safe_model.specs.said.Said.{Said, safe, unsafe, lost, vain, loose}
 use Rattle.untagged_apart.specs.Lines.{apart_line}
-use Rattle.safe_table.specs.AllSaid.{Line as OpVerdict, all_said}
+use Rattle.safe_said.specs.AllSaid.{Line as OpVerdict, all_said}
 use Rattle.command_safe.specs.declared.safe.counts.Counts.{Counts}
 use Rattle.command_safe.specs.safe.Counts.{counts_of}
 

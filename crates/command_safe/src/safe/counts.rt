@@ -1,9 +1,9 @@
 ghost use Rattle.std.specs.Prelude.{◌≡◌, ◌<◌, ◌≤◌, ◌^◌, length, map, count_by};
-ghost use Rattle.safe_table.specs.AllSaid.{line};
+ghost use Rattle.safe_said.specs.AllSaid.{line};
 ghost use Rattle.command_safe.specs.safe.Counts.{counts_of, ending_of, is_unsafe, is_lost, is_vain};
 
 use program_status::Status;
-use safe_table::{OpSaid, Said};
+use safe_said::{OpSaid, Said};
 
 /// How many reads are unsafe, how many writes are lost and how many polls are vain.
 #[derive(Clone, Copy, PartialEq, Eq)]
