@@ -12,9 +12,9 @@ ghost use Rattle.safe_said.specs.Members.{IsSeen};
 use crate::looks::Looks;
 use crate::lost::said_of_nowhere;
 use crate::verdict::Said;
-use board_writes::first_named;
 use board_model::{Board, Op};
 use board_tree::Tree;
+use board_writes::first_named;
 use pci_command::{NoMemory, OpId};
 use std::alloc::Global;
 
