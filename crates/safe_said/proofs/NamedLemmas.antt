@@ -45,7 +45,8 @@ untold_wish board table p op wish untold =
     ap (λ b. cond b (cond some None (Some vain)) (Some loose)) untold
 
 -- one that has a word is loose
-pub untold_some : (board : Board) (table : Table) (p : OpId) (op : Op) (word : Word) → op_of board p ≡ Some op → is_poll (Some op) ≡ true → words_named board p ≡ words_from (Some word) (phases_in (op_of board p))
+pub untold_some : (board : Board) (table : Table) (p : OpId) (op : Op) (word : Word) → op_of board p ≡ Some op → is_poll (Some op) ≡ true
+    → words_named board p ≡ words_from (Some word) (phases_in (op_of board p))
     → is_told board table p (wish_of board p) ≡ false → said_of_poll board table p op (wish_of board p) ≡ Some loose
 untold_some board table p (Read command address) word is poll words untold = cc
 untold_some board table p (Write command address phases) word is poll words untold = cc
