@@ -3,7 +3,7 @@ _pcitree() {
   local word=${COMP_WORDS[COMP_CWORD]} first=${COMP_WORDS[1]} options= endings= ending
   COMPREPLY=()
   if [ "$COMP_CWORD" = 1 ]; then
-    mapfile -t COMPREPLY < <(compgen -W "safe adverse run devices check fill observe finish audit report draw waves untagged tree headers combine import generate help explain --version --help" -- "$word")
+    mapfile -t COMPREPLY < <(compgen -W "safe adverse run devices finish generate check fill observe untagged audit report draw waves tree headers combine import help explain --version --help" -- "$word")
     return
   fi
   case $first in
@@ -12,22 +12,22 @@ _pcitree() {
       return
       ;;
     help | --help)
-      mapfile -t COMPREPLY < <(compgen -W "safe adverse run devices check fill observe finish audit report draw waves untagged tree headers combine import generate help explain --version board trace device log status codes" -- "$word")
+      mapfile -t COMPREPLY < <(compgen -W "safe adverse run devices finish generate check fill observe untagged audit report draw waves tree headers combine import help explain --version board trace device log status codes" -- "$word")
       return
       ;;
     safe) options="" endings="board devices" ;;
     adverse) options="" endings="board devices" ;;
     run) options="--steady" endings="board" ;;
     devices) options="" endings="devices" ;;
+    finish) options="" endings="trace" ;;
     check) options="" endings="trace" ;;
     fill) options="" endings="trace" ;;
     observe) options="--acts" endings="log" ;;
-    finish) options="" endings="trace" ;;
+    untagged) options="" endings="trace" ;;
     audit) options="" endings="trace" ;;
     report) options="" endings="trace" ;;
     draw) options="" endings="trace" ;;
     waves) options="" endings="trace" ;;
-    untagged) options="" endings="trace" ;;
     tree) options="" endings="board devices" ;;
     headers) options="" endings="board" ;;
     combine) options="" endings="board" ;;

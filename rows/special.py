@@ -294,6 +294,9 @@ def outputs_that_fail(place):
         adverse = [PROGRAM, "adverse", "../boards/early.board", "cpu.1", "nic.1"]
         yield "full_output_of_adverse", called(adverse, stdout=full), failed
         yield "full_output_of_help", called([PROGRAM, "help"], stdout=full), failed
+        # no further file is read then
+        files = called([PROGRAM, "safe", "../boards/nic.board", "none.board"], stdout=full)
+        yield "full_output_of_files", files, Wanted(4, b"", "../boards/nic.board: pcitree: write failed")
     yield "closed_output", called(["bash", "-c", 'exec "$@" >&-', "bash", *run]), failed
     reading, writing = os.pipe()
     os.close(reading)
@@ -316,8 +319,14 @@ def inputs_by_other_ways(place):
         writer.wait()
     with open("boards/one_word.board", "rb") as file:
         yield "standard_input", place.call("run", "--steady", "/dev/stdin", stdin=file), whole
-    seen = place.call("run", "--steady", "/dev/stdin", stdin=None, input=board)
-    yield "standard_input_of_a_pipe", seen, whole
+    for name, word in ("standard_input_of_a_pipe", "/dev/stdin"), ("standard_input_by_a_dash", "-"):
+        yield name, place.call("run", "--steady", word, stdin=None, input=board), whole
+    seen = place.call("safe", "-", "../boards/nic.board", stdin=None, input=place.read("../boards/nic.board"))
+    answer = place.read("safe/nic.safe")
+    wanted = Wanted(0, b"/dev/stdin:\n" + answer + b"../boards/nic.board:\n" + answer, "-")
+    yield "standard_input_among_files", seen, wanted
+    seen = place.call("headers", "-", stdin=None, input=b"pciboard 1\nfrob\n")
+    yield "fault_of_standard_input", seen, Wanted(6, b"", "pcitree: board line 2 fault P2")
 
 
 @row("file_that_may_not_be_read")
@@ -349,6 +358,18 @@ def man_page(place):
         yield "man_page", seen.cut(10), Wanted(0, b"PCITREE(1)", "-")
         wide = [line for line in seen.out.split(b"\n") if len(line) > 80]
         yield "man_page_is_80_columns", seen_as(seen, b"\n".join(wide)), Wanted(0, b"", "-")
+
+
+# No line of the help is wider than 80 columns, of no command either.
+
+
+@row("help_is_80_columns")
+def help_is_80_columns(place):
+    commands = re.findall(r"(?m)^  ([a-z-]+) ", place.read("help.txt").decode())
+    for words in [], *([it] for it in [*dict.fromkeys(commands), "board", "trace", "device", "log", "status"]):
+        seen = place.call("help", *words)
+        wide = [line for line in seen.out.split(b"\n") if len(line) > 80]
+        yield f"help_is_80_columns_{' '.join(words)}", seen_as(seen, b"\n".join(wide)), Wanted(0, b"", "-")
 
 
 # README is short enough to be read before anything is tried.

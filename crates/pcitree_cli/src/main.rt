@@ -3,14 +3,13 @@
 //! behind it say where and why.
 #![tactic(auto)]
 
-mod asked;
 mod report;
 
-use asked::tell;
 use io_ports::{HeldSource, ReadPort, WritePort};
 use pcitree::{Called, NoGate, Status, file_word, form_of, input_limit, pcitree};
 use program_messages::{Asked, asked_for};
-use report::report;
+use program_words::{FileName, OneCall, Several, files_of, name_input};
+use report::{report, status_only};
 use std::env;
 use std::fs::File;
 use std::io::ErrorKind;
@@ -20,7 +19,7 @@ use std::thread::Threads;
 fn main(rt: HostRuntime) -> ExitCode {
     let status = match words(&rt) {
         Ok(words) => serve(&rt, &rt, words.as_slice()),
-        Err(status) => status_only(&rt, status),
+        Err(status) => status_only(&rt, None, status),
     };
     ExitCode::from(status.number())
 }
@@ -28,41 +27,66 @@ fn main(rt: HostRuntime) -> ExitCode {
 /// The words behind the program's own name. Where one of them is no text, they are of no form.
 fn words(rt: &HostRuntime) -> Result<Vec<String>, Status> {
     match env::args(rt) {
-        Ok(all) => Ok(all.skip(1).collect(rt.alloc())?),
+        Ok(all) => {
+            let mut words: Vec<String> = all.skip(1).collect(rt.alloc())?;
+            name_input(rt.alloc(), words.as_mut_slice())?;
+            Ok(words)
+        }
         Err(error) if error.kind() == ErrorKind::OutOfMemory => Err(Status::NoMemory),
         Err(_) => Err(Status::Usage { word: 0 }),
     }
 }
 
-fn status_only(rt: &HostRuntime, status: Status) -> Status {
-    let _ = eprintln!(rt; "{status}");
-    status
-}
-
-/// Says what the program says of itself, or does what the words ask for.
+/// Says what the program says of itself, or does what the words ask for. (Words of a form are one call.)
 fn serve<R: Threads + Sync>(rt: &HostRuntime, threads: &R, words: &[String]) -> Status {
+    let call = OneCall { words, file: None };
     match asked_for(words) {
-        Asked::Work => run(rt, threads, words),
-        Asked::Misfit(word) => misfit(rt, words, word),
-        asked => match tell(rt, asked) {
+        Asked::Work => match files_of(words) {
+            Some(files) if form_of(&Called::new(words)).is_none() => run_all(rt, threads, files),
+            _ => run(rt, threads, call),
+        },
+        Asked::Misfit(word) => report(rt, call, "", b"", Status::Usage { word }, None),
+        asked => match print!(rt; "{asked}") {
             Ok(()) => Status::Done,
-            Err(error) => {
-                report(rt, words, "", b"", Status::WriteFault, Some(error.kind()));
-                Status::WriteFault
-            }
+            Err(error) => report(rt, call, "", b"", Status::WriteFault, Some(error.kind())),
         },
     }
 }
 
-fn misfit(rt: &HostRuntime, words: &[String], word: u32) -> Status {
-    let status = Status::Usage { word };
-    report(rt, words, "", b"", status, None);
-    status
+/// Answers each file by a call of its own. It ends with the lowest of their statuses that is not 0,
+/// so that a file that could not be judged is not hidden by one that is not safe; where memory or the
+/// output fails, no further file is read.
+fn run_all<R: Threads + Sync>(rt: &HostRuntime, threads: &R, all: Several<'_>) -> Status {
+    let mut lowest = Status::Done;
+    for file in all.files {
+        let status = each(rt, threads, all, file.as_str());
+        if lowest == Status::Done || (1..lowest.number()).contains(&status.number()) {
+            lowest = status;
+        }
+        if status == Status::NoMemory || status == Status::WriteFault {
+            break;
+        }
+    }
+    lowest
+}
+
+/// Answers one of several files, after a line with its name.
+fn each<R: Threads + Sync>(rt: &HostRuntime, threads: &R, all: Several<'_>, file: &str) -> Status {
+    let Ok(words) = all.call(rt.alloc(), file) else {
+        return status_only(rt, Some(file), Status::NoMemory);
+    };
+    let (words, name) = (words.as_slice(), Some(file));
+    let call = OneCall { words, file: name };
+    match println!(rt; "{}:", FileName(file)) {
+        Ok(()) => run(rt, threads, call),
+        Err(error) => report(rt, call, "", b"", Status::WriteFault, Some(error.kind())),
+    }
 }
 
 /// Reads the file whole, if the words name one, so far as an input may go, and hands it to the call
 /// that answers it. What it starts threads by is the runtime too.
-fn run<R: Threads + Sync>(rt: &HostRuntime, threads: &R, words: &[String]) -> Status {
+fn run<R: Threads + Sync>(rt: &HostRuntime, threads: &R, asked: OneCall<'_>) -> Status {
+    let words = asked.words;
     let name = file_name(words);
     let call = Called::new(words);
     let (file, reason) = open(rt, name);
@@ -73,7 +97,7 @@ fn run<R: Threads + Sync>(rt: &HostRuntime, threads: &R, words: &[String]) -> St
     let mut port = ReadPort::new(file);
     let Ok(mut source) = HeldSource::read_ahead(rt.alloc(), &mut port, input_limit(&call) + 1)
     else {
-        return status_only(rt, Status::NoMemory);
+        return status_only(rt, asked.file, Status::NoMemory);
     };
     if can_let_go {
         source.let_go();
@@ -81,12 +105,18 @@ fn run<R: Threads + Sync>(rt: &HostRuntime, threads: &R, words: &[String]) -> St
     let reason = reason.or(port.reason());
     let mut sink = WritePort::new(rt.stdout());
     let status = pcitree(threads, rt.alloc(), &call, &mut source, &mut sink, &NoGate);
-    if status != Status::Done {
-        let reason = reason.or(sink.reason());
-        let source = again(rt, words, name, source);
-        report(rt, words, name, source.bytes(), status, reason);
+    if status == Status::Done {
+        return status;
     }
-    status
+    let source = again(rt, words, name, source);
+    report(
+        rt,
+        asked,
+        name,
+        source.bytes(),
+        status,
+        reason.or(sink.reason()),
+    )
 }
 
 /// The source with its bytes: where the call let them go, with those that the file has now.

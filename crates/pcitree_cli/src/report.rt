@@ -7,33 +7,41 @@ use pci_command::NoMemory;
 use pcitree::{Called, Status, form_of};
 use program_messages::{message, message_of_log};
 use program_pages::Message;
-use program_words::{Reads, usage_help};
+use program_words::{FileName, OneCall, Reads, usage_help};
 use std::io::ErrorKind;
+
+/// The first line on standard error: of several files behind the name of the one that it is about.
+pub(crate) fn status_only(rt: &HostRuntime, file: Option<&str>, status: Status) -> Status {
+    let _ = match file {
+        Some(file) => eprintln!(rt; "{}: {status}", FileName(file)),
+        None => eprintln!(rt; "{status}"),
+    };
+    status
+}
 
 /// The lines on standard error. Where there is no memory for those behind the first there are none.
 pub(crate) fn report(
     rt: &HostRuntime,
-    words: &[String],
+    call: OneCall<'_>,
     name: &str,
     input: &[u8],
     status: Status,
     reason: Option<ErrorKind>,
-) {
-    let _ = match (status, words) {
-        (Status::NotShown, [_adverse, _file, read, write]) => {
-            eprintln!(rt; "pcitree: {read} did not read before {write} landed")
-        }
-        _ => eprintln!(rt; "{status}"),
-    };
+) -> Status {
+    let words = call.words;
+    if let (Status::NotShown, [_adverse, _file, read, write]) = (status, words) {
+        let _ = eprintln!(rt; "pcitree: {read} did not read before {write} landed");
+    } else {
+        status_only(rt, call.file, status);
+    }
     if let Status::Usage { word } = status {
         let _ = eprint!(rt; "{}", usage_help(words, word));
-        return;
-    }
-    if let Ok(message) = message_of(rt, words, name, input, status, reason)
+    } else if let Ok(message) = message_of(rt, words, name, input, status, reason)
         && let Ok(text) = str::from_utf8(message.as_bytes())
     {
         let _ = eprint!(rt; "{text}");
     }
+    status
 }
 
 fn message_of(

@@ -15,11 +15,12 @@ use Rattle.safe_model.specs.Clocks.{Table, is_poll, at_place, greater, known_by,
 use Rattle.safe_model.specs.largest.Tests.{program_of, Wish, wish_in, wish_of, told_to, most_known}
 use Rattle.safe_model.specs.largest.Largest.{IsWithin}
 use Rattle.safe_model.proofs.largest.Laws.{stays_above, passes_largest}
-use Rattle.safe_table.specs.Rows.{number, ProgramRows, rows_of, table_of, lesser, everything, KnowsAll, Rises, Closes}
-use Rattle.safe_table.specs.Falls.{row_in, sum_all, LowersTo}
-use Rattle.safe_table.specs.Most.{IsMost}
-use Rattle.safe_table.specs.Bounds.{ListsPolls, BoundsAll, Fell, Passes, LowersPoll, LowersPolls, Largest}
-use Rattle.safe_table.proofs.FallLemmas.{lesser_most, below_lesser}
+use Rattle.board_writes.specs.Rows.{number, ProgramRows, rows_of, table_of, lesser, everything, KnowsAll, Rises, Closes}
+use Rattle.board_writes.specs.Falls.{row_in, sum_all, LowersTo}
+use Rattle.board_writes.specs.Most.{IsMost}
+use Rattle.board_writes.specs.Listed.{ListsPolls}
+use Rattle.safe_table.specs.Bounds.{BoundsAll, Fell, Passes, LowersPoll, LowersPolls, Largest}
+use Rattle.board_writes.proofs.FallLemmas.{lesser_most, below_lesser}
 use Rattle.safe_table.proofs.RiseLemmas.{starts_rising, known_most, rises_on}
 use Rattle.safe_table.proofs.CloseLemmas.{clock_within, closes_on}
 

@@ -1,19 +1,19 @@
 -- Who comes after an operation comes after all that it does: so it is to begin with, and it stays so as numbers fall.
 use Rattle.std.proofs.Common.{◌≡◌, ℕ, zero, suc, ◌+◌, ◌<◌, ◌≤◌, Bool, true, false, ◌&&◌, cond, eqb, eqb-true, nat_lt, List, [], ◌∷◌, map, Option, None, Some, refl, sym, subst, arith, ◌⊎◌, inl, inr, ⊎_elim}
-use Rattle.std.proofs.lemmas.Bool.{and_parts, ltb-true}
+use Rattle.std.proofs.lemmas.Bool.{and_parts}
 use Rattle.std.proofs.lemmas.Bool.Decides.{nat_tests}
 use Rattle.pci_command.specs.declared.op_id.OpId.{OpId}
 use Rattle.board_model.specs.declared.board.Board.{Board}
 use Rattle.board_model.specs.Requests.{op_of}
 use Rattle.safe_model.specs.Clocks.{Clock, Table, is_poll, at_place, known_by, greater, raised, clock_of, clock_with}
 use Rattle.safe_model.specs.largest.Tests.{Wish, wish_of, is_told, raisers, least, program_of, known_by_all, told_to, most_known}
-use Rattle.safe_model.specs.largest.Largest.{IsWithin, IsLargest}
-use Rattle.safe_model.proofs.largest.Laws.{Rises, clock_rises, clocks_closed}
-use Rattle.safe_table.specs.Rows.{ProgramRows, table_of, KeepsPolls}
-use Rattle.safe_table.specs.Looks.{clock_in, ClosedIn, IsOrdered}
+use Rattle.safe_model.specs.largest.Largest.{IsWithin}
+use Rattle.safe_model.proofs.largest.Laws.{Rises, clock_rises}
+use Rattle.board_writes.specs.Rows.{ProgramRows, table_of, KeepsPolls}
+use Rattle.board_writes.specs.Looks.{ClosedIn, IsOrdered}
 use Rattle.safe_table.specs.Bounds.{BoundsAll}
-use Rattle.safe_table.proofs.KnownLemmas.{clock_looks}
-use Rattle.safe_table.proofs.RiseLemmas.{known_less, seen_rises, bounds_rise}
+use Rattle.safe_table.proofs.RiseLemmas.{known_less, bounds_rise}
+use Rattle.board_writes.proofs.OrderLemmas.{rows_closed}
 
 -- Numbers.
 
@@ -216,27 +216,10 @@ closes_on board old new o rises closes within is_p less elsewhere few many maste
 
 -- As the rows have it.
 
-rows_closed : (board : Board) (programs : List ProgramRows) → KeepsPolls board programs
-    → ((x p : OpId) → x.index < clock_of board (table_of programs) p x.master → (other : ℕ) → clock_of board (table_of programs) x other ≤ clock_of board (table_of programs) p other) → ClosedIn programs
-rows_closed board programs keeps counts x p before other =
-    let own = clock_looks board programs p x.master (clock_in programs p x.master) keeps refl in
-    let one = clock_looks board programs x other (clock_in programs x other) keeps refl in
-    let two = clock_looks board programs p other (clock_in programs p other) keeps refl in
-    let less = ltb-true x.index (clock_in programs p x.master) before in
-    let more = counts x p (omega (arith, own, less)) other in
-    omega (arith, one, two, more)
-
 closed_in : (board : Board) (programs : List ProgramRows) → KeepsPolls board programs → Rises board (table_of programs) → Closing board (table_of programs) → ClosedIn programs
 closed_in board programs keeps rises closes = rows_closed board programs keeps (λ x p below other. clock_counts board (table_of programs) rises closes x other p below)
 
--- so it is in the largest table
-seen_closed : (board : Board) (programs : List ProgramRows) → KeepsPolls board programs → IsLargest board (table_of programs) → ClosedIn programs
-seen_closed board programs keeps is_largest = rows_closed board programs keeps (λ x p below other. clocks_closed board (table_of programs) is_largest x p below other)
-
 -- What the looks at a table rest on.
-
-pub seen_ordered : (board : Board) (programs : List ProgramRows) → KeepsPolls board programs → IsLargest board (table_of programs) → IsOrdered programs
-seen_ordered board programs keeps is_largest = record { rises = seen_rises board programs keeps is_largest; closed = seen_closed board programs keeps is_largest }
 
 pub bounds_ordered : (board : Board) (programs : List ProgramRows) → BoundsAll board programs → IsOrdered programs
 bounds_ordered board programs bounds = record {

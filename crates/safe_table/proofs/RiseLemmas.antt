@@ -1,5 +1,5 @@
 -- What is known rises along a program.
-use Rattle.std.proofs.Common.{◌≡◌, ℕ, zero, suc, ◌+◌, ◌-◌, ◌≤◌, Bool, true, false, ◌&&◌, ◌==◌, cond, eqb, eqb-true, List, refl, sym, ap, subst, ◌∙◌, arith}
+use Rattle.std.proofs.Common.{◌≡◌, ℕ, zero, suc, ◌-◌, ◌≤◌, Bool, true, false, ◌&&◌, ◌==◌, cond, eqb, eqb-true, List, refl, sym, ap, subst, ◌∙◌, arith}
 use Rattle.std.proofs.lemmas.Bool.{and_parts}
 use Rattle.std.proofs.lemmas.Bool.Decides.{nat_tests}
 use Rattle.pci_command.specs.declared.op_id.OpId.{OpId}
@@ -7,11 +7,9 @@ use Rattle.board_model.specs.declared.board.Board.{Board}
 use Rattle.board_model.specs.Requests.{op_of}
 use Rattle.safe_model.specs.Clocks.{Table, is_poll, at_place, known_by, greater, clock_of}
 use Rattle.safe_model.specs.largest.Tests.{wish_of, told_to, most_known}
-use Rattle.safe_table.specs.Rows.{number, ProgramRows, rows_of, table_of, known_at, known_in, everything, KeepsPolls, KnowsAll, Rises, RisesIn}
+use Rattle.board_writes.specs.Rows.{number, ProgramRows, table_of, everything, KnowsAll, Rises, RisesIn}
 use Rattle.safe_table.specs.Bounds.{BoundsAll}
-use Rattle.safe_model.specs.largest.Largest.{IsLargest}
-use Rattle.safe_model.proofs.largest.Laws.{largest_rises}
-use Rattle.safe_table.proofs.KnownLemmas.{known_behind}
+use Rattle.board_writes.proofs.OrderLemmas.{rises_in}
 
 -- To begin with.
 
@@ -83,41 +81,6 @@ rises_on board old new o less elsewhere here rises master index other is =
           omega (arith, same, before)
     ]) refl in
     omega (arith, fell, kept)
-
--- As the rows have it.
-
-module _ (board : Board) (table : Table) (master other : ℕ) (rises : (index : ℕ) → is_poll (op_of board (at_place master index)) ≡ true → known_by board table master index other ≤ table master index other) where
-  known_once : (index : ℕ) → known_by board table master index other ≤ known_by board table master (suc index) other
-  known_once index =
-      let P : Bool → Type 0 = λ b. is_poll (op_of board (at_place master index)) ≡ b
-      → known_by board table master index other ≤ cond b (table master index) (known_by board table master index) other in
-      (elim (is_poll (op_of board (at_place master index))) as P [ true ↦ λ is. rises index is | false ↦ λ _. omega arith ]) refl
-
-  known_more : (early more late : ℕ) → late ≡ early + more → known_by board table master early other ≤ known_by board table master late other
-  known_more early zero late is =
-      let same : early ≡ late = omega (arith, is) in
-      subst (λ n. known_by board table master early other ≤ known_by board table master n other) same (omega arith)
-  known_more early (suc more) late is =
-      let last : suc (early + more) ≡ late = omega (arith, is) in
-      let so_far = known_more early more (early + more) refl in
-      let once = known_once (early + more) in
-      subst (λ n. known_by board table master early other ≤ known_by board table master n other) last (omega (arith, so_far, once))
-
-  known_later : (early late : ℕ) → early ≤ late → known_by board table master early other ≤ known_by board table master late other
-  known_later early late within = known_more early (late - early) late (omega (arith, within))
-
-pub rises_in : (board : Board) (programs : List ProgramRows) → KeepsPolls board programs → Rises board programs → RisesIn programs
-rises_in board programs keeps rises master early late other within =
-    let same : (index : ℕ) → known_in programs master index other ≡ known_by board (table_of programs) master index other = λ index.
-    ap (λ n. known_at (rows_of programs master) n other) (keeps.last_is master index) ∙ sym (known_behind board programs master other index) in
-    let one = same early in
-    let two = same late in
-    let later = known_later board (table_of programs) master other (λ index is. rises.polls master index other is) early late within in
-    omega (arith, one, two, later)
-
--- so it does in the largest table
-pub seen_rises : (board : Board) (programs : List ProgramRows) → KeepsPolls board programs → IsLargest board (table_of programs) → RisesIn programs
-seen_rises board programs keeps is_largest = rises_in board programs keeps (record { polls = λ master index other is. largest_rises board (table_of programs) is_largest master index is other })
 
 pub bounds_rise : (board : Board) (programs : List ProgramRows) → BoundsAll board programs → RisesIn programs
 bounds_rise board programs bounds = rises_in board programs bounds.polls bounds.rises

@@ -1,44 +1,18 @@
 -- Tables that fall from the top to the largest consistent one.
-use Rattle.std.specs.Prelude.{◌≡◌, ℕ, Bool, true, false, ◌<◌, ◌≤◌, List, Contains, slice_get, Option, Some, ◌⊎◌}
+use Rattle.std.specs.Prelude.{◌≡◌, ℕ, Bool, true, false, ◌<◌, ◌≤◌, List, slice_get, Option, Some}
 use Rattle.pci_command.specs.declared.op_id.OpId.{OpId}
-use Rattle.board_model.specs.declared.op.Op.{Op}
 use Rattle.board_model.specs.declared.board.Board.{Board}
 use Rattle.board_model.specs.Requests.{op_of}
 use Rattle.safe_model.specs.Clocks.{Table, is_poll, at_place, IsConsistent}
 use Rattle.safe_model.specs.largest.Tests.{most_known}
 use Rattle.safe_model.specs.largest.Largest.{IsWithin, IsLargest}
-use Rattle.safe_table.specs.Rows.{ProgramRows, table_of, is_tried_at, KeepsPolls, Rises, Closes}
-use Rattle.safe_table.specs.Falls.{sum_all, LowersTo}
-use Rattle.safe_table.specs.Most.{IsMost}
+use Rattle.board_writes.specs.Rows.{ProgramRows, table_of, KeepsPolls, Rises, Closes}
+use Rattle.board_writes.specs.Falls.{sum_all, LowersTo}
+use Rattle.board_writes.specs.Most.{IsMost}
 use Rattle.board_model.specs.declared.word.Word.{Word}
-use Rattle.safe_table.specs.declared.writers.write.WordWrite.{WordWrite}
-use Rattle.safe_table.specs.Writes.{ListsWrites}
-use Rattle.safe_table.specs.Polls.{PollFacts, KnowsPolls}
-
--- The polls of a board.
-
--- these are the polls of the board, each by its first try
-pub record ListsPolls (board : Board) (ops : List OpId) : Type 0 where
-  pub are : (o : OpId) → Contains ops o → is_poll (op_of board o) ≡ true
-  pub first : (o : OpId) → Contains ops o → o.attempt ≡ 0
-  pub all : (master index : ℕ) → is_poll (op_of board (at_place master index)) ≡ true → Contains ops (at_place master index)
-
--- a poll of the first so many operations of a program
-abbrev pub IsAmong : ℕ → List Op → ℕ → OpId → Type 0
-IsAmong master program count o = (index : ℕ) × (index < count) × (is_tried_at (slice_get program index) ≡ true) × (at_place master index ≡ o)
-
--- the polls of the first so many operations of a program are put behind others
-pub record AddsPolls (master : ℕ) (program : List Op) (count : ℕ) (old new : List OpId) : Type 0 where
-  pub kept : (o : OpId) → Contains old o → Contains new o
-  pub added : (o : OpId) → IsAmong master program count o → Contains new o
-  pub only : (o : OpId) → Contains new o → Contains old o ⊎ IsAmong master program count o
-
--- Falling.
-
--- these are what is kept of the writes and the polls of the board
-pub record AreKept (board : Board) (writers : List (Word × List WordWrite)) (polls : List (List (Option PollFacts))) : Type 0 where
-  pub writes : ListsWrites board writers
-  pub polls_are : KnowsPolls board polls
+use Rattle.board_writes.specs.declared.writers.write.WordWrite.{WordWrite}
+use Rattle.board_writes.specs.Polls.{PollFacts, AreKept}
+use Rattle.board_writes.specs.Listed.{ListsPolls}
 
 -- and these its polls
 pub record AreOf (board : Board) (writers : List (Word × List WordWrite)) (polls : List (List (Option PollFacts))) (ops : List OpId) : Type 0 where

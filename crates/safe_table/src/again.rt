@@ -1,17 +1,14 @@
 ghost use Rattle.std.specs.Prelude.{◌≤◌, Contains, IfOk, IfSome, OnOk};
 ghost use Rattle.board_tree.specs.Decodable.{IsDecodable};
-ghost use Rattle.safe_table.specs.Falls.{sum_all};
+ghost use Rattle.board_writes.specs.Falls.{sum_all};
 ghost use Rattle.safe_table.specs.Bounds.{AreOf, BoundsAll, Fell};
 
 use crate::fall::lower_poll;
-use crate::gathered::Gathered;
-use crate::known::ClockTable;
 use crate::order::order_of;
-use crate::polls::awaited_by;
-use crate::writers::first_named;
 use audit_clocks::WordTable;
 use board_model::{Board, Word, request_of};
 use board_tree::Tree;
+use board_writes::{ClockTable, Gathered, awaited_by, first_named};
 use pci_command::{NoMemory, OpId, Request};
 use std::alloc::Global;
 

@@ -1,11 +1,11 @@
 ghost use Rattle.std.specs.Prelude.{◌≡◌, IfOk, OnOk, length};
-ghost use Rattle.safe_table.specs.Bounds.{AreKept, AreOf, BoundsAll, Fell};
+ghost use Rattle.board_writes.specs.Polls.{AreKept};
+ghost use Rattle.safe_table.specs.Bounds.{AreOf, BoundsAll, Fell};
 ghost use Rattle.safe_table.specs.Bounds.{LowersPoll, LowersPolls, Largest};
 
 use crate::again::lower_again;
-use crate::gathered::Gathered;
-use crate::known::ClockTable;
 use board_tree::Tree;
+use board_writes::{ClockTable, Gathered};
 use pci_command::{NoMemory, OpId};
 use std::alloc::Global;
 

@@ -2,9 +2,8 @@ ghost use Rattle.std.specs.Prelude.{◌<◌, length, IfSome, IfOk, OnOk, Contain
 ghost use Rattle.safe_table.specs.Bounds.{AreOf, BoundsAll, Fell};
 
 use crate::fall::lower_poll;
-use crate::gathered::Gathered;
-use crate::known::ClockTable;
 use board_tree::Tree;
+use board_writes::{ClockTable, Gathered};
 use pci_command::{NoMemory, OpId};
 use std::alloc::Global;
 

@@ -1,19 +1,16 @@
 ghost use Rattle.std.specs.Prelude.{IfOk, OnOk};
 ghost use Rattle.safe_model.specs.largest.Largest.{IsLargest};
-ghost use Rattle.safe_table.specs.Rows.{table_of, KeepsPolls, KnowsAll};
+ghost use Rattle.board_writes.specs.Rows.{table_of, KeepsPolls, KnowsAll};
 ghost use Rattle.safe_table.specs.Bounds.{AreOf, BoundsAll, Largest};
 
 use crate::fall::lower_until_none;
 use crate::fronts::lower_fronts;
-use crate::gathered::{Gathered, gather};
-use crate::known::ClockTable;
-use crate::list::polls_of;
 use board_tree::Tree;
+use board_writes::{ClockTable, Gathered, gather, polls_of};
 use pci_command::{NoMemory, OpId};
 use std::alloc::Global;
 
-/// The largest consistent table of the board. It goes over the polls until no number falls. No word
-/// of the program calls it.
+/// The largest consistent table of the board. It goes over the polls until no number falls.
 pub fn largest_table(alloc: Global, tree: &Tree) -> Result<ClockTable, NoMemory>
     ensures largest { IfOk result (λ table. IsLargest tree.now (table_of table)) }
     ensures polls { IfOk result (λ table. KeepsPolls tree.now table) }

@@ -1,8 +1,6 @@
-ghost use Rattle.safe_table.specs.Looks.{IsOrdered};
+ghost use Rattle.board_writes.specs.Looks.{IsOrdered};
 
-use crate::gathered::Gathered;
-use crate::known::ClockTable;
-use crate::writers::WordWrite;
+use board_writes::{ClockTable, Gathered, WordWrite};
 use pci_command::{NoMemory, OpId};
 use std::alloc::Global;
 

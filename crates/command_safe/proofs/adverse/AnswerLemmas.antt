@@ -19,9 +19,8 @@ use Rattle.program_status.specs.declared.status.Status.TheVariants.{BadBoard, No
 use Rattle.program_status.specs.declared.status.BoardFault.{BoardFault}
 use Rattle.trace_reader.specs.lines.Words.{only_where}
 use Rattle.judge_adverse.specs.declared.run.Pair.{Pair}
-use Rattle.judge_adverse.specs.Runs.{reads_word}
+use Rattle.judge_adverse.specs.Runs.{reads_word, IsPair}
 use Rattle.judge_adverse.specs.Operation.{operation_of}
-use Rattle.judge_adverse.specs.Runs.{IsPair}
 use Rattle.command_safe.specs.adverse.Answers.{NamesPair, ShowsPair, ShowsAdverse, HidesPair, HidesAs, AnswersAdverse, RefusesAdverse}
 use Rattle.command_safe.specs.adverse.Answers.IsHidden.{waits}
 

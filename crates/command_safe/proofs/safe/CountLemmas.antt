@@ -17,8 +17,8 @@ use Rattle.board_model.proofs.Laws.{WellFormed-parts, Master-parts, op_tries}
 use Rattle.safe_model.specs.Ops.{ops_from, ops_by}
 use Rattle.safe_model.specs.Clocks.{Table}
 use Rattle.safe_model.specs.said.Said.{Said, said_of}
-use Rattle.safe_table.specs.AllSaid.{lines_of, said_among, all_said, line}
-use Rattle.safe_table.specs.declared.said.verdict.OpSaid.{OpSaid}
+use Rattle.safe_said.specs.AllSaid.{lines_of, said_among, all_said, line}
+use Rattle.safe_said.specs.declared.verdict.OpSaid.{OpSaid}
 
 length-filter-map : {X Y : Type 0} (p : Y → Bool) (f : X → Y) (xs : List X) → length (filter p (map f xs)) ≡ length (filter (λ x. p (f x)) xs)
 length-filter-map p f [] = refl

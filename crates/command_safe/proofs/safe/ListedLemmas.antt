@@ -7,7 +7,7 @@ use Rattle.board_model.specs.declared.board.Board.{Board}
 use Rattle.safe_model.specs.Ops.{ops_by}
 use Rattle.safe_model.specs.Clocks.{Table}
 use Rattle.safe_model.specs.said.Said.{Said, said_of}
-use Rattle.safe_table.specs.AllSaid.{Line, lines_of, said_among, all_said}
+use Rattle.safe_said.specs.AllSaid.{Line, lines_of, said_among, all_said}
 use Rattle.command_safe.specs.safe.Answers.{Says}
 
 module _ (board : Board) (table : Table) where

@@ -23,7 +23,7 @@ use Rattle.safe_model.specs.largest.Largest.{IsLargest}
 use Rattle.safe_model.specs.said.Said.{Said, safe, lost, nowhere, vain}
 use Rattle.program_status.specs.declared.status.Status.{Status}
 use Rattle.program_input.specs.Protocols.{ReadsProtocol}
-use Rattle.safe_table.specs.AllSaid.{Line as OpVerdict, all_said}
+use Rattle.safe_said.specs.AllSaid.{Line as OpVerdict, all_said}
 use Rattle.command_safe.specs.safe.Counts.{counts_of, ending_of}
 use Rattle.command_safe.specs.safe.Lines.{lines_of}
 

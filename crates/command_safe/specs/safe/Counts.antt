@@ -4,7 +4,7 @@ use Rattle.safe_model.specs.said.Said.{Said, unsafe, lost, nowhere, vain}
 use Rattle.program_status.specs.declared.counts.SafeCounts.{SafeCounts}
 use Rattle.program_status.specs.declared.status.Status.{Status}
 use Rattle.program_status.specs.declared.status.Status.TheVariants.{Done, NotSafe}
-use Rattle.safe_table.specs.AllSaid.{Line as OpVerdict}
+use Rattle.safe_said.specs.AllSaid.{Line as OpVerdict}
 
 -- that a read is unsafe
 abbrev pub says_unsafe : Said → Bool

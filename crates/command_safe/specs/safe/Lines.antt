@@ -11,7 +11,7 @@ use Rattle.trace_text.specs.Words.{master_name, target_name}
 use Rattle.safe_model.specs.said.Said.{Said, safe, unsafe, lost, nowhere, vain, loose}
 use Rattle.untagged_apart.specs.Lines.{apart_line}
 use Rattle.program_status.specs.declared.counts.SafeCounts.{SafeCounts}
-use Rattle.safe_table.specs.AllSaid.{Line as OpVerdict}
+use Rattle.safe_said.specs.AllSaid.{Line as OpVerdict}
 use Rattle.command_safe.specs.safe.Counts.{counts_of}
 
 -- an operation, all tries of a poll as one: `NAME.INDEX`

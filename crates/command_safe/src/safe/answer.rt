@@ -2,8 +2,8 @@ ghost use Rattle.std.specs.Prelude.{◌≡◌, ◌<◌, ◌^◌, length, map, If
 ghost use Rattle.law_untagged.specs.ApartTest.{is_apart};
 ghost use Rattle.safe_model.specs.largest.Largest.{IsLargest};
 ghost use Rattle.program_input.specs.Protocols.{RefusesProtocol};
-ghost use Rattle.safe_table.specs.Rows.{table_of, KeepsPolls};
-ghost use Rattle.safe_table.specs.AllSaid.{line};
+ghost use Rattle.board_writes.specs.Rows.{table_of, KeepsPolls};
+ghost use Rattle.safe_said.specs.AllSaid.{line};
 ghost use Rattle.command_safe.specs.safe.Counts.{counts_of, ending_of};
 ghost use Rattle.command_safe.specs.safe.Lines.{lines_of};
 ghost use Rattle.command_safe.specs.safe.Answers.{AnswersSafe, SaysSafe};
@@ -12,6 +12,7 @@ use crate::safe::counts::{counts_of, ending_of};
 use crate::safe::text::safe_text;
 use board_model::Board;
 use board_tree::Tree;
+use board_writes::ClockTable;
 use law_safe::{
     ended_writes_land, lost_never_lands, nowhere_never_reads, said_safe_returns,
     said_vain_is_not_met, unreached_is_never_done,
@@ -19,7 +20,8 @@ use law_safe::{
 use law_untagged::{apart_is_tested, apart_runs_are_alike};
 use program_input::read_protocol;
 use program_status::{Answered, Status};
-use safe_table::{ClockTable, OpSaid, largest_table, said_of_all};
+use safe_said::{OpSaid, said_of_all};
+use safe_table::largest_table;
 use std::alloc::Global;
 use untagged_apart::apart;
 

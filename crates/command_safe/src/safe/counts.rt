@@ -1,10 +1,10 @@
 ghost use Rattle.std.specs.Prelude.{◌≡◌, ◌<◌, ◌≤◌, ◌^◌, length, map, count_by};
-ghost use Rattle.safe_table.specs.AllSaid.{line};
+ghost use Rattle.safe_said.specs.AllSaid.{line};
 ghost use Rattle.command_safe.specs.safe.Counts.{counts_of, ending_of, is_unsafe, is_lost, is_vain};
 ghost use Rattle.command_safe.specs.safe.Counts.{is_nowhere};
 
 use program_status::{SafeCounts, Status};
-use safe_table::{OpSaid, Said};
+use safe_said::{OpSaid, Said};
 
 /// How many faults there are in all that is said.
 pub(crate) fn counts_of(said: &[OpSaid]) -> SafeCounts

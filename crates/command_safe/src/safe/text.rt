@@ -1,7 +1,7 @@
 ghost use Rattle.std.specs.Prelude.{◌≡◌, ◌++◌, ◌∷◌, [], map, IfOk, IfErr, OnOk, string_bytes};
 ghost use Rattle.board_printer.specs.Lines.{spaced, line_text};
 ghost use Rattle.board_printer.specs.Numbers.{address_text};
-ghost use Rattle.safe_table.specs.AllSaid.{verdict, line};
+ghost use Rattle.safe_said.specs.AllSaid.{verdict, line};
 ghost use Rattle.command_safe.specs.safe.Counts.{counts_of};
 ghost use Rattle.command_safe.specs.safe.Lines.{place_word, dword_words, said_words, said_line};
 ghost use Rattle.command_safe.specs.safe.Lines.{said_lines, further, count_line, lines_of};
@@ -10,7 +10,7 @@ use board_model::{Board, Word};
 use board_printer::{HexWord, space_word};
 use pci_command::OpId;
 use program_status::{SafeCounts, Status};
-use safe_table::{OpSaid, Said};
+use safe_said::{OpSaid, Said};
 use std::alloc::{AllocError, Global};
 use trace_text::{master_name, target_name};
 use untagged_apart::print_apart;

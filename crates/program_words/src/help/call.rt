@@ -8,8 +8,15 @@ const COLUMN: usize = 24;
 /// The words of one way to call the program.
 #[derive(Clone, Copy, Debug)]
 enum CallWords {
-    Parts(&'static [Part]),
+    Parts(&'static [Part], Files),
     Own(&'static OwnWord),
+}
+
+/// How many files it takes.
+#[derive(Clone, Copy, Debug, PartialEq, Eq)]
+enum Files {
+    One,
+    Several,
 }
 
 /// One way to call the program, with what the help says of it.
@@ -23,7 +30,10 @@ pub(crate) struct Call {
 impl Call {
     pub(crate) fn of_row(row: FormRow) -> Call {
         Call {
-            words: CallWords::Parts(row.parts),
+            words: CallWords::Parts(
+                row.parts,
+                if row.each { Files::Several } else { Files::One },
+            ),
             line: row.line,
             more: row.more,
         }
@@ -40,11 +50,17 @@ impl Call {
     /// The row of it in the short help.
     pub(crate) fn write_row<W: fmt::Write>(&self, f: &mut fmt::Formatter<W>) -> fmt::Result {
         let words = self.words;
-        write!(f, "  pcitree {words}")?;
+        write!(f, "  {words}")?;
         for _ in words.width()..COLUMN {
             f.write_char(' ')?;
         }
         writeln!(f, " {}", self.line)
+    }
+
+    /// The line that says how it is called.
+    pub(crate) fn write_usage<W: fmt::Write>(&self, f: &mut fmt::Formatter<W>) -> fmt::Result {
+        let words = self.words;
+        writeln!(f, "usage: pcitree {words}")
     }
 
     /// All that the help says of it.
@@ -58,9 +74,9 @@ impl CallWords {
     /// How many columns they take.
     fn width(self) -> usize {
         match self {
-            CallWords::Parts(parts) => parts
+            CallWords::Parts(parts, files) => parts
                 .iter()
-                .fold(0usize, |width, part| {
+                .fold(files.shown().len(), |width, part| {
                     width.saturating_add(part.shown().len()).saturating_add(1)
                 })
                 .saturating_sub(1),
@@ -69,17 +85,27 @@ impl CallWords {
     }
 }
 
+impl Files {
+    /// What stands behind the last word, where it is one of several.
+    fn shown(self) -> &'static str {
+        match self {
+            Files::One => "",
+            Files::Several => "..",
+        }
+    }
+}
+
 impl fmt::Display for CallWords {
     fn fmt<W: fmt::Write>(&self, f: &mut fmt::Formatter<W>) -> fmt::Result {
         match self {
-            CallWords::Parts(parts) => {
+            CallWords::Parts(parts, files) => {
                 for (index, part) in parts.iter().enumerate() {
                     if index > 0 {
                         f.write_char(' ')?;
                     }
                     f.write_str(part.shown())?;
                 }
-                Ok(())
+                f.write_str(files.shown())
             }
             CallWords::Own(own) => write!(f, "{}{}", own.word, own.operand),
         }

@@ -36,34 +36,35 @@ pub static TOPICS: [Topic; 5] = [
     },
 ];
 
-const BOARD: &str = "pcitree help board: the lines of a board\n\
+const BOARD: &str = "pcitree help board: the lines of a board file\n\
     \n\
-    \x20 pciboard 1                      the first line; pciboard 2 where addresses have 64 \
-    bits, UPPER:LOWER\n\
-    \x20 bridge B on Q dev D last S      a bridge from bus Q down to bus B; S is the last bus \
-    below it; then, in this order:\n\
-    \x20     mem BASE LIMIT, pref BASE LIMIT, io BASE LIMIT, posted 1..8, delayed 1..8, abort \
-    0|1\n\
-    \x20 header D BYTES                  a bridge by the 64 bytes of its header; then posted, \
-    delayed\n\
-    \x20 target NAME on B dev D          what answers; then of it:\n\
-    \x20     range mem|io BASE SIZE      what it claims            abort mem|io BASE SIZE  \
-    where it aborts\n\
-    \x20     word mem|io ADDR VALUE      what a dword opens as     id VENDOR DEVICE, stall \
-    COUNT, burst 1..8\n\
-    \x20 master NAME on B                what asks; then its operations, in their order:\n\
-    \x20     mr ADDR, mrl ADDR, mrm ADDR, ior ADDR                 reads\n\
-    \x20     mw ADDR WORD .., mwi ADDR WORD .., iow ADDR WORD      writes; WORD/E enables bytes\n\
-    \x20     poll ADDR MASK VALUE TRIES, iopoll ..                 reads until VALUE is there\n\
-    \x20     cfr B D REG, cfw B D REG WORD                         configuration\n\
-    \x20 discard B down|up K, drop B down|up K                     the K-th completion or \
-    request there is lost\n\
+    \x20 pciboard 1                   the first line (pciboard 2: 64-bit addresses,\n\
+    \x20                              written UPPER:LOWER)\n\
+    \x20 bridge B on Q dev D last S   a bridge from bus Q down to bus B; S is the last\n\
+    \x20                              bus below it. Then, in this order:\n\
+    \x20     mem BASE LIMIT, pref BASE LIMIT, io BASE LIMIT, posted 1..8,\n\
+    \x20     delayed 1..8, abort 0|1\n\
+    \x20 header D BYTES               a bridge, by the 64 bytes of its header; then\n\
+    \x20                              posted, delayed\n\
+    \x20 target NAME on B dev D       a device that answers; then its lines:\n\
+    \x20     range mem|io BASE SIZE   what it claims\n\
+    \x20     abort mem|io BASE SIZE   where it answers with Target-Abort\n\
+    \x20     word mem|io ADDR VALUE   the initial value of a dword\n\
+    \x20     id VENDOR DEVICE, stall COUNT, burst 1..8\n\
+    \x20 master NAME on B             a program; then its operations, in order:\n\
+    \x20     mr ADDR, mrl ADDR, mrm ADDR, ior ADDR              read\n\
+    \x20     mw ADDR WORD .., mwi ADDR WORD .., iow ADDR WORD   write (WORD/E: only\n\
+    \x20                              the bytes that E enables)\n\
+    \x20     poll ADDR MASK VALUE TRIES, iopoll ..              read until it is VALUE\n\
+    \x20     cfr B D REG, cfw B D REG WORD                      configuration\n\
+    \x20 discard B down|up K          the K-th completion there is lost\n\
+    \x20 drop B down|up K             the K-th request there is lost\n\
     \n\
-    Addresses, sizes, masks, values: hexadecimal, 1 to 8 digits, no 0x. Other numbers: decimal. \
-    A range has a base and a\n\
-    size, a window a base and a limit. NAME: 1 to 16 letters, digits, _ and -, a letter first. \
-    # begins a comment. A line\n\
-    has at most 256 bytes of ASCII and ends with a newline.\n\
+    Addresses, sizes, masks and values: hexadecimal, 1 to 8 digits, without 0x.\n\
+    Other numbers: decimal. A range has a base and a size, a window a base and a\n\
+    limit. NAME: 1 to 16 letters, digits, _ and -, beginning with a letter. A\n\
+    comment begins with #. A line has at most 256 bytes of ASCII and ends with a\n\
+    newline.\n\
     \n\
     Example:\n\
     \n\
@@ -80,26 +81,25 @@ const BOARD: &str = "pcitree help board: the lines of a board\n\
 
 const TRACE: &str = "pcitree help trace: the lines of a trace\n\
     \n\
-    pcitrace 1, a board, events, one line for each event, end N (N the number of events). \
-    Behind events no comments,\n\
-    single spaces, numbers as below. L is a lane, 1d down through bridge 1 and 1u up; BY is m \
-    for a master, else the lane\n\
-    that presents it; OP is NAME.INDEX, of a poll NAME.INDEX.TRY, each from 0; HEX has 8 \
-    lower-case digits.\n\
+    pcitrace 1, a board, events, one line per event, end N (the number of events).\n\
+    After events: no comments, single spaces. L is a lane: 1d down through bridge 1,\n\
+    1u up. BY is m for a master, or the lane that presents the item. OP is\n\
+    NAME.INDEX, of a poll NAME.INDEX.TRY, each from 0. HEX has 8 lower-case digits.\n\
     \n\
-    \x20 BUS arrive L               what went into L first arrives at its end; discard or drop \
-    behind it if the board says so\n\
-    \x20 BUS land BY OP TARGET      the target takes a write           BUS part BY OP TARGET \
-    N    N words of it\n\
-    \x20 BUS read BY OP TARGET HEX  the target gives a value; =B for the header of bridge B\n\
-    \x20 BUS accept BY OP L         the bridge posts a write           BUS latch BY OP \
-    L          keeps a request\n\
-    \x20 BUS take BY OP L OUTCOME   the bridge gives a completion: HEX, ok or abort\n\
-    \x20 BUS stall BY OP TARGET     Retry of a target                  BUS tabort BY OP \
-    TARGET    Target-Abort\n\
-    \x20 BUS nobody BY OP           nobody claims it\n\
+    \x20 BUS arrive L               the oldest item in L arrives (then discard or drop,\n\
+    \x20                            if the board says so)\n\
+    \x20 BUS land BY OP TARGET      the target takes a write\n\
+    \x20 BUS part BY OP TARGET N    the target takes N dwords of it\n\
+    \x20 BUS read BY OP TARGET HEX  the target returns a value; =B: header of bridge B\n\
+    \x20 BUS accept BY OP L         the bridge posts a write\n\
+    \x20 BUS latch BY OP L          the bridge keeps a delayed request\n\
+    \x20 BUS take BY OP L OUTCOME   the bridge gives the completion: HEX, ok or abort\n\
+    \x20 BUS stall BY OP TARGET     Retry by a target\n\
+    \x20 BUS tabort BY OP TARGET    Target-Abort\n\
+    \x20 BUS nobody BY OP           Master-Abort: no device claims the address\n\
     \n\
-    A Retry of a bridge is no event. A trace has at most 500,000 events and 64 MiB.\n\
+    A Retry by a bridge is not an event. A trace has at most 500,000 events and\n\
+    64 MiB.\n\
     \n\
     Example:\n\
     \n\
@@ -115,27 +115,29 @@ const TRACE: &str = "pcitree help trace: the lines of a trace\n\
     0 read m cpu.1 ram 0000002a\n\
     end 2\n";
 
-const DEVICE: &str = "pcitree help device: the lines of a device text\n\
+const DEVICE: &str = "pcitree help device: the lines of a device file\n\
     \n\
-    pcidevices 1, a board, devices, these lines, end. Each device or handler is one more \
-    master, its lines its operations.\n\
+    pcidevices 1, a board, devices, these lines, end. Each device and each handler\n\
+    is one more master; its lines are its operations.\n\
     \n\
-    \x20 device NAME on TARGET bell ADDR VALUE TRIES    on the bus of TARGET; first waits until \
-    the dword at ADDR is VALUE\n\
-    \x20     put ADDR LENGTH SEED                       LENGTH bytes (decimal) SEED, SEED + 1 \
-    and so on, in blocks of 32\n\
-    \x20     send ADDR DATA VECTORS V                   a message: one dword, vector V of \
-    VECTORS in the low bits of DATA\n\
-    \x20     get ADDR                                   reads a dword\n\
-    \x20 handler NAME on BUS wait ADDR VALUE TRIES      on that bus; first waits likewise\n\
-    \x20     look ADDR                                  reads a dword\n\
-    \x20 wait ADDR VALUE TRIES, word ADDR VALUE         in either: waits again; writes a dword\n\
+    \x20 device NAME on TARGET bell ADDR VALUE TRIES\n\
+    \x20                              on the bus of TARGET; first waits for its bell:\n\
+    \x20                              until the dword at ADDR is VALUE\n\
+    \x20     put ADDR LENGTH SEED     DMA: LENGTH bytes (decimal) SEED, SEED + 1, ..\n\
+    \x20                              in blocks of 32\n\
+    \x20     send ADDR DATA VECTORS V a message: one dword, vector V of VECTORS in the\n\
+    \x20                              low bits of DATA\n\
+    \x20     get ADDR                 reads a dword\n\
+    \x20 handler NAME on BUS wait ADDR VALUE TRIES\n\
+    \x20                              on that bus; first waits for the message\n\
+    \x20     look ADDR                reads a dword\n\
+    \x20 wait ADDR VALUE TRIES        in either: waits again\n\
+    \x20 word ADDR VALUE              in either: writes a dword\n\
     \n\
-    What is waited for is not there from the start, and one write alone brings it: of its whole \
-    dword, and nothing else.\n\
-    LENGTH is 1 to 4096, TRIES 1 to 65536, VECTORS 1, 2, 4, 8, 16 or 32, V below it. Each ADDR \
-    but that of put is a\n\
-    multiple of 4.\n\
+    What is waited for must not be the initial value, and exactly one write must\n\
+    store it: of the full dword, in a write of its own. LENGTH is 1 to 4096, TRIES 1\n\
+    to 65536, VECTORS 1, 2, 4, 8, 16 or 32, V below VECTORS. Each ADDR except that\n\
+    of put is a multiple of 4.\n\
     \n\
     Example:\n\
     \n\
@@ -165,37 +167,34 @@ const DEVICE: &str = "pcitree help device: the lines of a device text\n\
 
 const LOG: &str = "pcitree help log: the lines of a log\n\
     \n\
-    pcilog 1, a board without operations, log, a line for each transaction that was seen on \
-    a bus, end. A simulation prints\n\
-    it by a monitor on each bus (monitors/pci_log.v); docs/rtl.md tells how.\n\
+    pcilog 1, a board without operations, log, one line per transaction that was\n\
+    seen on a bus, end. A monitor on each bus of a simulation prints them\n\
+    (monitors/pci_log.v, docs/rtl.md).\n\
     \n\
     \x20 START-END BUS WHO COMMAND ADDRESS WORD.. RESULT\n\
     \n\
-    \x20 START-END  when the address was on the bus, and when it ended: decimals of 1 to 18 \
-    digits, in any unit; START alone\n\
-    \x20            stands for START-START\n\
-    \x20 BUS WHO    the bus; a master of the board on it, or the lane that ends there: 1d \
-    down through bridge 1, 1u up\n\
-    \x20 COMMAND    mr mrl mrm ior cfr read, mw mwi iow cfw write\n\
-    \x20 ADDRESS    a multiple of 4; of cfr and cfw DEVICE.REG (type 0; - for DEVICE where \
-    no IDSEL was up) or BUS.DEVICE.REG\n\
-    \x20 WORD..     what was transferred, a word for each data phase, WORD/E with its \
-    enables. If nothing was: of iow and cfw\n\
-    \x20            what was offered; of mw and mwi with retry what was offered first, or \
-    none; else none\n\
-    \x20 RESULT     done: data was transferred, whoever ended it; retry; tabort: \
-    Target-Abort; nobody: Master-Abort\n\
+    \x20 START-END  when the address phase began and when the transaction ended:\n\
+    \x20            decimals of 1 to 18 digits, in any unit; START alone means\n\
+    \x20            START-START\n\
+    \x20 BUS WHO    the bus; a master on it, or the lane that ends there: 1d down\n\
+    \x20            through bridge 1, 1u up\n\
+    \x20 COMMAND    read: mr mrl mrm ior cfr; write: mw mwi iow cfw\n\
+    \x20 ADDRESS    a multiple of 4; of cfr and cfw DEVICE.REG (type 0; - for DEVICE if\n\
+    \x20            no IDSEL was active) or BUS.DEVICE.REG\n\
+    \x20 WORD..     what was transferred, one word per data phase, WORD/E with its\n\
+    \x20            enables. If nothing was: of iow and cfw what was offered; of mw and\n\
+    \x20            mwi with retry what was offered first, or none; otherwise none\n\
+    \x20 RESULT     done: data was transferred, whoever ended it; retry;\n\
+    \x20            tabort: Target-Abort; nobody: Master-Abort\n\
     \n\
-    The lines of one bus stand in its order, and none begins before the one before it \
-    ended. Lines of several buses stand in\n\
-    any order. At the beginning no bridge holds anything, and memory may hold anything; a \
-    log may end anywhere. Interrupt\n\
-    acknowledge, special cycles and reserved commands are left out.\n\
+    The lines of one bus are in order, and none begins before the previous one\n\
+    ended. Lines of different buses may be in any order. At the beginning bridges\n\
+    are empty, and memory may hold anything; a log may end anywhere. Omit interrupt\n\
+    acknowledge, special cycles and reserved commands.\n\
     \n\
-    The board has no stall and burst lines: the log shows both. Who is not sure how much a \
-    bridge holds writes posted 8\n\
-    delayed 8. Comments, spaces and the length of a line are as in a board. A log has at \
-    most 64 MiB.\n\
+    The board has no stall and burst lines: the log shows both. If you do not know\n\
+    how much a bridge holds, write posted 8 delayed 8. Comments, spaces and line\n\
+    lengths are as in a board. A log has at most 64 MiB.\n\
     \n\
     Example:\n\
     \n\
@@ -211,17 +210,17 @@ const LOG: &str = "pcitree help log: the lines of a log\n\
     150-210 0 cpu mr 80000040 0000002a done\n\
     end\n";
 
-const STATUS: &str = "pcitree help status: how it ends\n\
+const STATUS: &str = "pcitree help status: exit statuses\n\
     \n\
     0   done\n\
-    1   no memory\n\
-    2   the words are of no form\n\
-    3   the file was not read\n\
-    4   the output was not written\n\
-    5   too long, too much to draw, or more in the log than a board may have\n\
-    6   the board or machine has a fault, or the board of a log\n\
-    7   the text of the trace or log has a fault\n\
-    8   an event is not allowed, or what a line of the log shows\n\
+    1   out of memory\n\
+    2   usage error\n\
+    3   the input could not be read\n\
+    4   the output could not be written\n\
+    5   too long, too much to draw, or more in a log than a board may have\n\
+    6   an error in a board, a device file or an lspci text\n\
+    7   an error in a trace or a log\n\
+    8   an event, or what a line of a log shows, is not allowed\n\
     9   the run has not ended\n\
-    10  not safe: a read, a write or a poll is listed that is at fault\n\
-    11  no adverse run was found, which shows nothing\n";
+    10  not safe\n\
+    11  no adverse run was found\n";

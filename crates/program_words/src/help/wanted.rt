@@ -1,3 +1,4 @@
+use crate::help::Shown;
 use crate::{FORMS, Part};
 use std::fmt;
 
@@ -15,9 +16,9 @@ pub(crate) enum Wanted {
 /// What the word at this place, from 1 on, has to be.
 pub(crate) fn wanted_at(words: &[String], place: u32) -> Wanted {
     match (words, place) {
-        ([first, ..], 1) if first.as_str() == "explain" => Wanted::Operand("CODE, such as P6"),
+        ([first, ..], 1) if first.as_str() == "explain" => Wanted::Operand("CODE"),
         ([first, ..], 1) if first.as_str() == "help" || first.as_str() == "--help" => {
-            Wanted::Operand("WORD, such as safe or board")
+            Wanted::Operand("WORD")
         }
         _ => match FORMS
             .iter()
@@ -48,30 +49,34 @@ fn may_be(part: Part, word: &str) -> bool {
     }
 }
 
-impl fmt::Display for Wanted {
-    fn fmt<W: fmt::Write>(&self, f: &mut fmt::Formatter<W>) -> fmt::Result {
+impl Part {
+    /// What is wrong with a word that was to be so.
+    pub(crate) fn write_unfit<W: fmt::Write>(
+        self,
+        f: &mut fmt::Formatter<W>,
+        word: &str,
+    ) -> fmt::Result {
+        let shown = Shown(word);
         match self {
-            Wanted::Part(part) => {
-                write!(
-                    f,
-                    "what is wanted here is {}{}",
-                    part.shown(),
-                    kind_of(*part)
-                )
+            Part::Last if is_decimal(word) => writeln!(f, "{shown} is below FIRST"),
+            Part::Rounds => writeln!(f, "{shown} is not a number from 1 to 300"),
+            Part::First => writeln!(
+                f,
+                "{shown} is not the number of an event or an operation, such as cpu.1"
+            ),
+            Part::Last => writeln!(f, "{shown} is not the number of an event"),
+            Part::Operation(_) => writeln!(f, "{shown} is not an operation, such as cpu.1"),
+            Part::Word(_) | Part::File | Part::Log => {
+                writeln!(f, "{shown} is not the name of a file")
             }
-            Wanted::Operand(text) => write!(f, "what is wanted here is {text}"),
-            Wanted::Nothing => f.write_str("no further word is wanted here"),
         }
     }
 }
 
-/// What is said of a word that is so, behind what it is called.
-fn kind_of(part: Part) -> &'static str {
-    match part {
-        Part::Word(_) | Part::File | Part::Log => "",
-        Part::Rounds => " from 1 to 300",
-        Part::First => ", the number of an event",
-        Part::Last => ", not below FIRST",
-        Part::Operation(_) => ", such as cpu.1",
-    }
+fn is_decimal(word: &str) -> bool {
+    (1..=10).contains(&word.len())
+        && word
+            .as_bytes()
+            .iter()
+            .all(|byte| matches!(byte, b'0'..=b'9'))
 }

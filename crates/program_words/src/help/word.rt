@@ -34,7 +34,7 @@ fn begins_form(word: &str) -> bool
     FORMS.iter().any(|form| begins(form.row().parts, word))
 }
 
-fn begins(parts: &[Part], word: &str) -> bool
+pub(crate) fn begins(parts: &[Part], word: &str) -> bool
     ensures { result ≡ begins word.now (map shape_of parts.now) }
 {
     match parts {

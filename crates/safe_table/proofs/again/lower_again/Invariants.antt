@@ -1,5 +1,5 @@
 use Rattle.std.proofs.Common.{◌≤◌}
-use Rattle.safe_table.specs.Falls.{sum_all}
+use Rattle.board_writes.specs.Falls.{sum_all}
 use Rattle.safe_table.specs.Bounds.{BoundsAll}
 use Rattle.safe_table.proofs.again.lower_again.Given as goal
 

@@ -1,4 +1,4 @@
-use Rattle.safe_table.specs.Falls.{sum_all}
+use Rattle.board_writes.specs.Falls.{sum_all}
 use Rattle.safe_table.specs.Bounds.{BoundsAll}
 use Rattle.safe_table.proofs.fronts.lower_rounds.Given as goal
 

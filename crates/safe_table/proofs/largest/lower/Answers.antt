@@ -1,5 +1,5 @@
 use Rattle.std.proofs.Common.{sym, subst}
-use Rattle.safe_table.specs.Bounds.{ListsPolls}
+use Rattle.board_writes.specs.Listed.{ListsPolls}
 use Rattle.safe_table.proofs.BoundLemmas.{starts_bound}
 use Rattle.safe_table.proofs.largest.lower.Goals as goal
 

@@ -2,9 +2,9 @@ use Rattle.std.proofs.Common.{◌≡◌, ◌^◌, ◌<◌, List, length, map, re
 use Rattle.law_untagged.specs.ApartTest.{is_apart}
 use Rattle.safe_model.specs.Clocks.{at_place}
 use Rattle.safe_model.specs.said.Said.{safe, lost, nowhere, vain}
-use Rattle.safe_table.specs.Rows.{table_of}
-use Rattle.safe_table.specs.AllSaid.{Line as OpVerdict, line, all_said}
-use Rattle.safe_table.specs.declared.said.verdict.OpSaid.{OpSaid}
+use Rattle.board_writes.specs.Rows.{table_of}
+use Rattle.safe_said.specs.AllSaid.{Line as OpVerdict, line, all_said}
+use Rattle.safe_said.specs.declared.verdict.OpSaid.{OpSaid}
 use Rattle.command_safe.specs.safe.Counts.{counts_of, ending_of}
 use Rattle.command_safe.specs.safe.Lines.{lines_of}
 use Rattle.command_safe.proofs.safe.CountLemmas.{said_few}

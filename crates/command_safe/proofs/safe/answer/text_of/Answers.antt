@@ -2,7 +2,7 @@ use Rattle.std.proofs.Common.{◌≡◌, ℕ, Bool, List, IfOk, ap, subst, ◌�
 use Rattle.board_model.specs.declared.board.Board.{Board}
 use Rattle.law_untagged.specs.Apart.{Apart}
 use Rattle.law_untagged.specs.ApartTest.{is_apart}
-use Rattle.safe_table.specs.AllSaid.{line}
+use Rattle.safe_said.specs.AllSaid.{line}
 use Rattle.command_safe.specs.safe.Lines.{lines_of}
 use Rattle.command_safe.proofs.safe.SaysLemmas.{same_test}
 use Rattle.command_safe.proofs.safe.answer.text_of.Goals as goal

@@ -1,5 +1,5 @@
 use Rattle.std.proofs.Common.{◌≡◌, ◌++◌, drop, map, string_bytes}
-use Rattle.safe_table.specs.AllSaid.{line}
+use Rattle.safe_said.specs.AllSaid.{line}
 use Rattle.command_safe.specs.safe.Lines.{said_lines}
 use Rattle.command_safe.proofs.safe.text.print_all.Given as goal
 

@@ -1,0 +1,16 @@
+pub mod StartLemmas
+pub mod KnownLemmas
+pub mod LowerLemmas
+pub mod FallLemmas
+pub mod ListLemmas
+pub mod WriteLemmas
+pub mod PollLemmas
+pub mod KeptLemmas
+pub mod RaiserLemmas
+pub mod StretchLemmas
+pub mod StayLemmas
+pub mod ScanLemmas
+pub mod RaisingLemmas
+pub mod CleanLemmas
+pub mod OrderLemmas
+pub mod TellLemmas

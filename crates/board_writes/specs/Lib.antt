@@ -1,0 +1,9 @@
+pub mod Rows
+pub mod Falls
+pub mod Writes
+pub mod Most
+pub mod Looks
+pub mod Stretches
+pub mod Polls
+pub mod Raising
+pub mod Listed

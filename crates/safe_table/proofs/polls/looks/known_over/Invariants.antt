@@ -1,7 +1,0 @@
-use Rattle.std.proofs.Common.{◌≡◌, drop}
-use Rattle.safe_table.specs.Looks.{known_to}
-use Rattle.safe_table.proofs.polls.looks.known_over.Given as goal
-
--- with the raisers that are left it is what all know
-abbrev pub invariant-loop-raiser : goal.invariant-loop-raiser
-invariant-loop-raiser l = known_to l.table (drop l.raiser-index l.raisers) l.least l.other ≡ known_to l.table l.raisers l.most l.other

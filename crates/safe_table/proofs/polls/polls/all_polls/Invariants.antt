@@ -1,7 +1,0 @@
-use Rattle.safe_table.proofs.StartLemmas.{FilledTo}
-use Rattle.safe_table.proofs.KeptLemmas.{program_kept}
-use Rattle.safe_table.proofs.polls.polls.all_polls.Given as goal
-
--- the programs so far
-abbrev pub invariant-loop-number : goal.invariant-loop-number
-invariant-loop-number l = FilledTo (program_kept l.tree) l.programs.items l.number

@@ -1,7 +1,0 @@
-use Rattle.safe_table.proofs.StartLemmas.{FilledTo}
-use Rattle.safe_table.proofs.KeptLemmas.{number_kept}
-use Rattle.safe_table.proofs.polls.polls.most_numbers.Given as goal
-
--- the masters so far
-abbrev pub invariant-loop-other : goal.invariant-loop-other
-invariant-loop-other l = FilledTo (number_kept l.tree l.table l.op l.told l.raisers) l.numbers.items l.other

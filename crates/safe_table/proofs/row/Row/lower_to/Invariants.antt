@@ -1,6 +1,0 @@
-use Rattle.safe_table.proofs.FallLemmas.{FallsTo}
-use Rattle.safe_table.proofs.row.Row.lower_to.Given as goal
-
--- the first numbers fell
-abbrev pub invariant-loop-master : goal.invariant-loop-master
-invariant-loop-master l = FallsTo l.most l.initial.self-inside.numbers.items l.self-inside.numbers.items l.fell l.master

@@ -1,6 +1,0 @@
-use Rattle.safe_table.proofs.StartLemmas.{FilledTo, started_at}
-use Rattle.safe_table.proofs.start.start_all.Given as goal
-
--- the programs so far
-abbrev pub invariant-loop-number : goal.invariant-loop-number
-invariant-loop-number l = FilledTo (started_at l.board) l.programs.items l._number

@@ -1,6 +1,0 @@
-use Rattle.safe_table.specs.Writes.{KeepsLists}
-use Rattle.safe_table.proofs.writers.lists.keep_all.Given as goal
-
--- so far what is kept is so
-abbrev pub invariant-loop-poll : goal.invariant-loop-poll
-invariant-loop-poll l = KeepsLists l.words l.lists

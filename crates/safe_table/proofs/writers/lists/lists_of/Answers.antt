@@ -1,5 +1,0 @@
-use Rattle.board_tree.proofs.DecodableLemmas.{IsDecodable-valid}
-use Rattle.safe_table.proofs.writers.lists.lists_of.Goals as goal
-
-pub keep_all-requires-clause-decodable : goal.keep_all-requires-clause-decodable
-keep_all-requires-clause-decodable c = rw c.board.ensures.value (IsDecodable-valid c.args.tree.now c.board.ensures.valid)
