@@ -16,7 +16,7 @@ use crate::polls::said_of_poll;
 use crate::reads::said_of_read;
 use crate::verdict::Said;
 use board_model::{Op, Word, op_of};
-use board_writes::{first_named, first_named};
+use board_writes::first_named;
 use pci_command::{NoMemory, OpId};
 use std::alloc::Global;
 
