@@ -3,6 +3,7 @@ ghost use Rattle.std.specs.Option.{option_map};
 ghost use Rattle.safe_model.specs.largest.Largest.{IsLargest};
 ghost use Rattle.safe_model.specs.Ops.{ops_by, ops_from};
 ghost use Rattle.board_writes.specs.Rows.{table_of, KeepsPolls};
+ghost use Rattle.board_writes.specs.Polls.{AreKept};
 ghost use Rattle.safe_said.specs.AllSaid.{verdict, line, lines_of, all_said};
 ghost use Rattle.safe_said.specs.Members.{IsSeen, KeepsMembers, Says};
 
@@ -12,12 +13,12 @@ use crate::ops::said_of;
 use crate::verdict::{OpSaid, Said};
 use board_model::Op;
 use board_tree::Tree;
-use board_writes::{ClockTable, Polls, Writers};
+use board_writes::{ClockTable, Gathered};
 use pci_command::{NoMemory, OpId};
 use std::alloc::Global;
 
-/// What is said of the operations of a board by its largest table, in the order of master and
-/// index; nothing of those of which nothing is said.
+/// What is said of the operations of a board by its largest table, and by what was gathered of its
+/// writes and polls, in the order of master and index; nothing of those of which nothing is said.
 ///
 /// The writes of a word that some run may come to are listed once, as runs, and put in the order in
 /// which they land, by one walk for each run; where they land in none, each is looked at beside each
@@ -25,18 +26,22 @@ use std::alloc::Global;
 /// two binary searches, and one in each run where a write stands beside it. Where they do not, it
 /// takes one in each run, and no more if all come before it; else those before it are put in their
 /// order once more, and looked at beside their runs.
-pub fn said_of_all(alloc: Global, tree: &Tree, table: &ClockTable) -> Result<Vec<OpSaid>, NoMemory>
+pub fn said_of_all(
+    alloc: Global,
+    tree: &Tree,
+    table: &ClockTable,
+    gathered: &Gathered,
+) -> Result<Vec<OpSaid>, NoMemory>
     requires largest { IsLargest tree.now (table_of table.now) }
     requires polls { KeepsPolls tree.now table.now }
+    requires kept { AreKept tree.now gathered.now.writers gathered.now.polls }
     ensures { IfOk result (λ list. map line list.items ≡ all_said tree.now (table_of table.now)) }
 {
-    let writers = Writers::new(alloc, tree)?;
-    let polls = Polls::new(alloc, tree, &writers)?;
     let looks = Looks {
         tree,
         table,
-        writers: &writers,
-        polls: &polls,
+        writers: &gathered.writers,
+        polls: &gathered.polls,
     };
     let mut list = Vec::new(alloc);
     list_said(&mut list, alloc, &looks)?;

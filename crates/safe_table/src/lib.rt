@@ -9,4 +9,4 @@ mod fronts;
 mod largest;
 mod order;
 
-pub use largest::largest_table;
+pub use largest::{TableMade, largest_table};

@@ -3,6 +3,7 @@ ghost use Rattle.law_untagged.specs.ApartTest.{is_apart};
 ghost use Rattle.safe_model.specs.largest.Largest.{IsLargest};
 ghost use Rattle.program_input.specs.Protocols.{RefusesProtocol};
 ghost use Rattle.board_writes.specs.Rows.{table_of, KeepsPolls};
+ghost use Rattle.board_writes.specs.Polls.{AreKept};
 ghost use Rattle.safe_said.specs.AllSaid.{line};
 ghost use Rattle.command_safe.specs.safe.Counts.{counts_of, ending_of};
 ghost use Rattle.command_safe.specs.safe.Lines.{lines_of};
@@ -12,7 +13,6 @@ use crate::safe::counts::{counts_of, ending_of};
 use crate::safe::text::safe_text;
 use board_model::Board;
 use board_tree::Tree;
-use board_writes::ClockTable;
 use law_safe::{
     ended_writes_land, lost_never_lands, nowhere_never_reads, said_safe_returns,
     said_vain_is_not_met, unreached_is_never_done,
@@ -21,7 +21,7 @@ use law_untagged::{apart_is_tested, apart_runs_are_alike};
 use program_input::read_protocol;
 use program_status::{Answered, Status};
 use safe_said::{OpSaid, said_of_all};
-use safe_table::largest_table;
+use safe_table::{TableMade, largest_table};
 use std::alloc::Global;
 use untagged_apart::apart;
 
@@ -42,14 +42,15 @@ fn said_of_tree(alloc: Global, tree: &Tree) -> Result<Answered, Status>
     ensures err { IfErr result (λ status. status ≡ Status.NoMemory) }
 {
     match largest_table(alloc, tree) {
-        Ok(table) => said_by_table(alloc, tree, &table),
+        Ok(made) => said_by_table(alloc, tree, &made),
         Err(_) => Err(Status::NoMemory),
     }
 }
 
-fn said_by_table(alloc: Global, tree: &Tree, table: &ClockTable) -> Result<Answered, Status>
-    requires largest { IsLargest tree.now (table_of table.now) }
-    requires polls { KeepsPolls tree.now table.now }
+fn said_by_table(alloc: Global, tree: &Tree, made: &TableMade) -> Result<Answered, Status>
+    requires largest { IsLargest tree.now (table_of made.now.table) }
+    requires polls { KeepsPolls tree.now made.now.table }
+    requires kept { AreKept tree.now made.now.gathered.writers made.now.gathered.polls }
     ensures ok { IfOk result (λ answer. SaysSafe tree.now answer.text.items answer.ending) }
     ensures err { IfErr result (λ status. status ≡ Status.NoMemory) }
 {
@@ -63,7 +64,7 @@ fn said_by_table(alloc: Global, tree: &Tree, table: &ClockTable) -> Result<Answe
     apart_is_tested();
     // The board of a tree is valid, so that all of this holds of its runs.
     let _valid = tree.board();
-    match said_of_all(alloc, tree, table) {
+    match said_of_all(alloc, tree, &made.table, &made.gathered) {
         Ok(said) => text_of(alloc, tree, said.as_slice()),
         Err(_) => Err(Status::NoMemory),
     }

@@ -15,12 +15,12 @@ use Rattle.command_safe.proofs.safe.answer.said_by_table.Goals as goal
 pub text_of-requires : goal.text_of-requires
 text_of-requires c =
     let P : List OpSaid → Type 0 = λ said. length said < 2 ^ 32 in
-    subst P (sym c.as_slice.ensures.value) (said_few c.args.tree.now (table_of c.args.table.now) c.in-Ok.said.items c.board-valid.ensures.valid c.in-Ok.ensures)
+    subst P (sym c.as_slice.ensures.value) (said_few c.args.tree.now (table_of c.args.made.now.table) c.in-Ok.said.items c.board-valid.ensures.valid c.in-Ok.ensures)
 
 pub returns-in-Ok-clause-ok : goal.returns-in-Ok-clause-ok
 returns-in-Ok-clause-ok c =
     let board = c.args.tree.now in
-    let table = table_of c.args.table.now in
+    let table = table_of c.args.made.now.table in
     let valid = c.board-valid.ensures.valid in
     let largest = c.requires.largest in
     let is : map line c.as_slice.result.now ≡ all_said board table = ap (map line) c.as_slice.ensures.value ∙ c.in-Ok.ensures in
