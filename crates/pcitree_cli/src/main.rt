@@ -46,10 +46,16 @@ fn serve<R: Threads + Sync>(rt: &HostRuntime, threads: &R, words: &[String]) -> 
             _ => run(rt, threads, call),
         },
         Asked::Misfit(word) => report(rt, call, "", b"", Status::Usage { word }, None),
-        asked => match print!(rt; "{asked}") {
-            Ok(()) => Status::Done,
-            Err(error) => report(rt, call, "", b"", Status::WriteFault, Some(error.kind())),
-        },
+        asked => tell(rt, call, asked),
+    }
+}
+
+/// Writes what the program says of itself.
+#[inline(never)]
+fn tell(rt: &HostRuntime, call: OneCall<'_>, asked: Asked) -> Status {
+    match print!(rt; "{asked}") {
+        Ok(()) => Status::Done,
+        Err(error) => report(rt, call, "", b"", Status::WriteFault, Some(error.kind())),
     }
 }
 
@@ -90,8 +96,7 @@ fn run<R: Threads + Sync>(rt: &HostRuntime, threads: &R, asked: OneCall<'_>) -> 
     let name = file_name(words);
     let call = Called::new(words);
     let (file, reason) = open(rt, name);
-    // an input is let go once it is read, where it can be read again, as no pipe can
-    let is_file = |file: &File| file.metadata().is_ok_and(|data| data.is_file());
+    // an input is let go once it is read, where it can be read again
     let lets_go = form_of(&call).is_some_and(|form| form.row().lets_go);
     let can_let_go = lets_go && file.as_ref().is_some_and(is_file);
     let mut port = ReadPort::new(file);
@@ -117,6 +122,13 @@ fn run<R: Threads + Sync>(rt: &HostRuntime, threads: &R, asked: OneCall<'_>) -> 
         status,
         reason.or(sink.reason()),
     )
+}
+
+/// Whether it can be read again, as no pipe can.
+/// (Not inlined, like `tell`: what it has on the stack is not there during the call.)
+#[inline(never)]
+fn is_file(file: &File) -> bool {
+    file.metadata().is_ok_and(|data| data.is_file())
 }
 
 /// The source with its bytes: where the call let them go, with those that the file has now.
