@@ -1,6 +1,6 @@
 //! The type 1 configuration header of a bridge, read: PCI-to-PCI Bridge Architecture Specification
 //! 1.1, section 3.2 (from memory); what `encode` of `board_model` writes is read back.
-//! `tools/lspci-check` compares it with `lspci`.
+//! `tools/checks/lspci-check` compares it with `lspci`.
 #![tactic(auto)]
 
 mod control;

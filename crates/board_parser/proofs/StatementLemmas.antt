@@ -13,7 +13,7 @@ use Rattle.board_statements.specs.declared.keyword.LineForm.{LineForm}
 use Rattle.board_statements.specs.declared.keyword.LineForm.TheVariants.{Bridge, Header, Target, Id, Stall, Burst, Range, Abort, Word, Master, Reads, WritesBurst, WritesPort, ReadsRegister, WritesRegister, Polls, Discard, Drop}
 use Rattle.board_statements.specs.declared.statement.Statement.{Statement}
 use Rattle.board_statements.specs.Words.{one_word}
-use Rattle.board_statements.specs.Keywords.{form_of}
+use Rattle.board_statements.specs.Keywords.{line_form}
 use Rattle.board_statements.specs.Statements.{behind_word, statement_form, statement_of}
 use Rattle.board_parser.proofs.ReaderLemmas.{on-ok, word-ok, yields-whole}
 use Rattle.board_parser.proofs.FormLemmas.{is_space_of, bridge-formed, header-formed, target-formed, id-formed, stall-formed, burst-formed, claim-formed, abort-formed, opening-formed, master-formed, read-formed, burst_write-formed, port_write-formed, register_read-formed, register_write-formed, poll-formed, discard-formed, drop-formed}
@@ -53,8 +53,8 @@ kept test form later served others = record { at = case-served test form later s
 none_served : (fault : LineFault) → AllServed (Err fault)
 none_served fault = record { at = λ found h. absurd (cc) }
 
-all-served : (word : List ℕ) → AllServed (form_of word)
-unfolding form_of
+all-served : (word : List ℕ) → AllServed (line_form word)
+unfolding line_form
 all-served word =
     kept (bytes_eq word (codes "bridge")) Bridge _ refl (
     kept (bytes_eq word (codes "header")) Header _ refl (
@@ -105,8 +105,8 @@ behind-formed wide Drop served words read h = drop-formed words read h
 line-formed : (wide : Bool) (words : List (List ℕ)) (read : Statement × List (List ℕ)) → statement_form wide words ≡ Ok read → is_formed (read.0) ≡ true
 unfolding statement_form
 line-formed wide words read h =
-    let form = on-ok (one_word form_of words) _ read h in
-    behind-formed wide (form.0.0) (word-ok form_of (λ f. is_served f ≡ true) (λ word. (all-served word).at) words form.0 form.1.0) (form.0.1) read form.1.1
+    let form = on-ok (one_word line_form words) _ read h in
+    behind-formed wide (form.0.0) (word-ok line_form (λ f. is_served f ≡ true) (λ word. (all-served word).at) words form.0 form.1.0) (form.0.1) read form.1.1
 
 pub statement-formed : (wide : Bool) (words : List (List ℕ)) (statement : Statement) → statement_of wide words ≡ Ok statement → is_formed statement ≡ true
 unfolding statement_of

@@ -27,8 +27,8 @@ traffic_form_of word =
     else Err WrongWord
 
 -- all of them: those of bridges and targets first
-unfoldable pub form_of : List ℕ → Result LineForm LineFault
-form_of word =
+unfoldable pub line_form : List ℕ → Result LineForm LineFault
+line_form word =
     if bytes_eq word (codes "bridge") then Ok Bridge
     else if bytes_eq word (codes "header") then Ok Header
     else if bytes_eq word (codes "target") then Ok Target

@@ -6,7 +6,7 @@ use Rattle.board_statements.specs.declared.keyword.LineForm.{LineForm}
 use Rattle.board_statements.specs.declared.keyword.LineForm.TheVariants.{Bridge, Header, Target, Id, Stall, Burst, Range, Abort, Word, Master, Reads, WritesBurst, WritesPort, ReadsRegister, WritesRegister, Polls, Discard, Drop}
 use Rattle.board_statements.specs.declared.statement.Statement.{Statement}
 use Rattle.board_statements.specs.Words.{◌>>=◌, Reader, one_word, whole}
-use Rattle.board_statements.specs.Keywords.{form_of}
+use Rattle.board_statements.specs.Keywords.{line_form}
 use Rattle.board_statements.specs.Bridges.{bridge_form, header_form}
 use Rattle.board_statements.specs.Targets.{target_form, id_form, stall_form, burst_form, claim_form, abort_form, opening_form}
 use Rattle.board_statements.specs.Masters.{master_form, read_form, burst_write_form, port_write_form, register_read_form, register_write_form, poll_form, discard_form, drop_form}
@@ -35,7 +35,7 @@ behind_word wide Drop = drop_form
 -- the first word, and what stands behind it
 unfoldable pub statement_form : Bool → Reader Statement
 statement_form wide = do
-  form ← one_word form_of
+  form ← one_word line_form
   behind_word wide form
 
 -- the statement of the words of a line behind the first one, or its first fault; in a wide text some numbers may have

@@ -1,5 +1,5 @@
 ghost use Rattle.std.specs.Prelude.{◌≡◌};
-ghost use Rattle.board_statements.specs.Keywords.{form_of, traffic_form_of};
+ghost use Rattle.board_statements.specs.Keywords.{line_form, traffic_form_of};
 
 use crate::words::is_word;
 use pci_command::{Command, Space};
@@ -32,9 +32,9 @@ pub enum LineForm {
 }
 
 /// The kind of a line that begins with this word.
-#[tactic(auto, unfolding(crate::specs::Keywords::form_of))]
-pub fn form_of(word: &[u8]) -> Result<LineForm, LineFault>
-    ensures { result ≡ form_of word.now }
+#[tactic(auto, unfolding(crate::specs::Keywords::line_form))]
+pub fn line_form(word: &[u8]) -> Result<LineForm, LineFault>
+    ensures { result ≡ line_form word.now }
 {
     if is_word(word, b"bridge") {
         Ok(LineForm::Bridge)

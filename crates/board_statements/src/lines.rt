@@ -3,7 +3,7 @@ ghost use Rattle.board_text.specs.Tokens.{words_of};
 ghost use Rattle.board_statements.specs.Words.{Gives};
 ghost use Rattle.board_statements.specs.Statements.{behind_word, statement_of, first_line_of};
 
-use crate::keyword::{LineForm, form_of};
+use crate::keyword::{LineForm, line_form};
 use crate::words::{Words, is_word};
 use crate::{Statement, bridges, masters, targets};
 use text_faults::LineFault;
@@ -52,7 +52,7 @@ pub fn statement_of(wide: bool, line: &[u8]) -> Result<Statement, LineFault>
 pub fn take_statement(words: &mut Words, wide: bool) -> Result<Statement, LineFault>
     ensures { result ≡ statement_of wide words.old }
 {
-    let form = form_of(words.take()?)?;
+    let form = line_form(words.take()?)?;
     let statement = behind_word(words, wide, form)?;
     if words.is_done() {
         Ok(statement)

@@ -86,7 +86,7 @@ pub fn can_stand(item: Carried) -> bool
 }
 
 /// Whether it is a posted write or a delayed request of the operation.
-pub fn is_of(item: Carried, of: OpId) -> bool
+pub(crate) fn is_of(item: Carried, of: OpId) -> bool
     ensures { result ≡ is_of of item }
 {
     match item {

@@ -12,7 +12,7 @@ mod waits;
 pub use columns::{
     Band, Column, ColumnLine, Columns, Most, columns_of, most_of, print_name, product, sum,
 };
-pub use journey::{Journey, can_stand, is_of, lane_back};
+pub use journey::{Journey, can_stand, lane_back};
 pub use style::{print_key, print_style};
 pub use touched::{completion_at, item_of, named_by, near_of, taken_by};
 pub use tries::{Tries, tries_of};

@@ -1,5 +1,5 @@
 -- The journeys agree with the machine: on each lane there is now what the machine has there, in its order.
-use Rattle.std.proofs.Common.{◌≡◌, ℕ, ◌<◌, Bool, false, List, [], ◌∷◌, ◌++◌, Option, Some, None, refl, sym, ap, subst, ◌∙◌, append-nil}
+use Rattle.std.proofs.Common.{◌≡◌, ℕ, ◌<◌, Bool, true, false, not, ◌&&◌, cond, List, [], ◌∷◌, ◌++◌, map, Option, Some, None, refl, sym, ap, subst, ◌∙◌, append-nil}
 use Rattle.std.specs.List.{find}
 use Rattle.list_facts.specs.Lists.{less}
 use Rattle.pci_command.specs.declared.op_id.OpId.{OpId}
@@ -19,226 +19,215 @@ use Rattle.history_model.specs.declared.event.Event.{Event}
 use Rattle.history_model.specs.declared.event.Event.TheVariants.{Act, Arrive}
 use Rattle.history_model.specs.declared.item.Carried.{Carried}
 use Rattle.history_model.specs.declared.item.Carried.TheVariants.{Post, Ask, Done, Room, Gone}
-use Rattle.history_model.specs.declared.item.Slot.{Slot}
-use Rattle.history_model.specs.Lanes.{LaneState, Both, is_of, is_done_for, lowest_free, post_enters, ask_enters, reply_to, item_ends, slot_taken, effect_of, takes_effect, came_off, arrives_first}
-use Rattle.history_model.specs.Lanes.{arrives as lane_arrives}
-use Rattle.history_model.specs.World.{World, same_lane, both, put, moved, is_own, slot_found, enters, at_place, lane_outcome, leaves as lane_leaves, at_initiator, after}
-use Rattle.history_model.proofs.facts.BridgeLemmas.{same_lane_back, same_lane_symm}
-use Rattle.history_model.proofs.facts.MovedLemmas.{moved_each}
+use Rattle.history_model.specs.declared.item.Move.{Move}
+use Rattle.history_model.specs.declared.item.Move.TheVariants.{Sent, Came, Lost, Left, Held, Freed, Owed, Paid}
+use Rattle.history_model.specs.declared.rule.Rule.TheVariants.{Tagged}
+use Rattle.history_model.specs.Lanes.{LaneState, reply_to}
+use Rattle.history_model.specs.World.{World, same_lane, lane_outcome, after}
+use Rattle.history_model.specs.Moves.{slot_at, item_by, oldest, moved_by, arrival_moves, latch_moves, take_moves, claim_moves, place_moves, end_moves, initiator_moves, moves_in, is_like, younger, lane_of, put_on, put_move, put_moves}
+use Rattle.history_model.proofs.facts.BridgeLemmas.{same_lane_symm, same_lane_true}
+use Rattle.law_lanes.proofs.moves.Laws.{moves_after}
 use Rattle.draw_items.specs.declared.journey.Journey.{Journey}
-use Rattle.draw_items.specs.Journeys.{flies, stands, is_there}
-use Rattle.draw_journeys.specs.Steps.{sends, leaves, answers, word_of, comes, arrives, takes, claimed_at, claims, reply, ends_by, ends, next}
-use Rattle.draw_journeys.proofs.ChangeLemmas.{kept, item_first, first-none, change-none, found-none, found-some}
-use Rattle.draw_journeys.proofs.SeenLemmas.{Seen, seen_from, item_of, sees, on_lane, sees_sends_here, sees_sends_other, sees_leaves_here, sees_leaves_other, comes_first, stood, sees_comes_here, sees_comes_other}
-use Rattle.draw_journeys.proofs.KeepLemmas.{Ordered}
+use Rattle.draw_items.specs.Journeys.{can_stand, flies, stands}
+use Rattle.draw_journeys.specs.Steps.{sends, leaves, comes, move_on, moves_on, next}
+use Rattle.draw_journeys.proofs.ChangeLemmas.{kept, first-none}
+use Rattle.draw_journeys.proofs.SeenLemmas.{Seen, seen_from, seen_same, item_of, sees, on_lane, sees_sends_here, sees_sends_other, sees_leaves_here, sees_leaves_other, stood, sees_comes_here, sees_comes_other}
+use Rattle.draw_journeys.proofs.KeepLemmas.{Ordered, order_keeps, move_keeps}
 
--- on each lane of the world
 abbrev pub Agrees : World → List Journey → Type 0
 Agrees world js = (l : BridgeLane) → sees l js ≡ on_lane (world l)
 
--- lanes that are not one
-other_way : (a l : BridgeLane) → same_lane l a ≡ false → same_lane a l ≡ false
-other_way a l other = same_lane_symm a l ∙ other
-
-back_apart : (lane : BridgeLane) → same_lane lane (lane_back lane) ≡ false
-back_apart lane = other_way lane (lane_back lane) (same_lane_back lane)
-
--- A move of one bridge.
-
--- nothing is moved
-agree_idle : (move : Both → Both) (lane : BridgeLane) (world : World) (js : List Journey) → move (both world lane) ≡ both world lane → Agrees world js → Agrees (moved move lane world) js
-agree_idle move lane world js same agrees =
-    moved_each (λ l s. sees l js ≡ on_lane s) move lane world (λ l _ _. agrees l)
-    (agrees lane ∙ sym (ap (λ x. on_lane x.here) same)) (agrees (lane_back lane) ∙ sym (ap (λ x. on_lane x.back) same))
-
--- items are sent on the lane
-agree_sends : (move : Both → Both) (lane : BridgeLane) (world : World) (n : ℕ) (o : OpId) (items : List Carried) (js : List Journey)
-    → on_lane (move (both world lane)).here ≡ seen_from ((world lane).flight ++ items) (world lane).standing → on_lane (move (both world lane)).back ≡ on_lane (world (lane_back lane))
-    → Agrees world js → Agrees (moved move lane world) (sends n lane o items js)
-agree_sends move lane world n o items js here back agrees =
-    moved_each (λ l s. sees l (sends n lane o items js) ≡ on_lane s) move lane world
-    (λ l apart _. sees_sends_other n lane l o items js (other_way lane l apart) ∙ agrees l)
-    (sees_sends_here n lane o items js ∙ ap (λ (s : Seen). seen_from (s.flight ++ items) s.standing) (agrees lane) ∙ sym here)
-    (sees_sends_other n lane (lane_back lane) o items js (back_apart lane) ∙ agrees (lane_back lane) ∙ sym back)
-
--- a completion is taken on the lane back
-agree_takes : (lane : BridgeLane) (world : World) (n number : ℕ) (js : List Journey) → 0 < n → Agrees world js → Agrees (moved (slot_taken number) lane world) (leaves n (lane_back lane) (is_done_for number) js)
-agree_takes lane world n number js some agrees =
-    let back : BridgeLane = lane_back lane in
-    let test : Carried → Bool = is_done_for number in
-    moved_each (λ l s. sees l (leaves n back test js) ≡ on_lane s) (slot_taken number) lane world
-    (λ l _ apart. sees_leaves_other n back l test js (other_way back l apart) ∙ agrees l)
-    (sees_leaves_other n back lane test js (same_lane_back lane) ∙ agrees lane)
-    (sees_leaves_here n back test js some ∙ ap (λ (s : Seen). seen_from s.flight (less test s.standing)) (agrees back))
-
--- what is answered for a journey that ends, or comes, is sent on the lane back
-record Answered (n : ℕ) (lane : BridgeLane) (items : List Carried) (js new : List Journey) : Type 0 where
-  op : OpId
-  is : new ≡ sends n (lane_back lane) op items js
-
-answered_none : (n : ℕ) (lane : BridgeLane) (o : OpId) (items : List Carried) (js new : List Journey) → items ≡ [] → new ≡ js → Answered n lane items js new
-answered_none n lane o items js new none same = record {
-  op = o;
-  is = same ∙ sym (ap (λ (xs : List Carried). sends n (lane_back lane) o xs js) none ∙ append-nil js);
-}
-
--- an item ends: it leaves, and its answer goes back
-ends_answered : (lane : BridgeLane) (world : World) (n : ℕ) (o : OpId) (outcome : Outcome) (js : List Journey) → Agrees world js
-    → Answered n lane (reply_to outcome (find (is_of o) (world lane).standing)) (leaves n lane (is_of o) js) (ends_by n lane o (Some outcome) js)
-ends_answered lane world n o outcome js agrees =
-    let test : Journey → Bool = is_there lane (is_of o) in
-    let new : List Journey = leaves n lane (is_of o) js in
-    let old : kept item_of (stands lane) js ≡ (world lane).standing = ap (λ (s : Seen). s.standing) (agrees lane) in
-    let items : Option Carried → List Carried = reply_to outcome in
-    let found : find (is_of o) (kept item_of (stands lane) js) ≡ find (is_of o) (world lane).standing = ap (λ (xs : List Carried). find (is_of o) xs) old in
-    let is : ends_by n lane o (Some outcome) js ≡ answers n lane (reply outcome) (find test js) new = ap (λ (f : Option Journey). answers n lane (reply outcome) f new) (item_first test js) in
-    let P : Option Journey → Type 0 = λ f. find test js ≡ f → ends_by n lane o (Some outcome) js ≡ answers n lane (reply outcome) f new
-    → Answered n lane (items (find (is_of o) (world lane).standing)) new (ends_by n lane o (Some outcome) js) in
-    (elim (find test js) as P [
-      | None ↦ λ none same. answered_none n lane o _ new _ (ap items (sym found ∙ found-none item_of (stands lane) (is_of o) js none)) same
-      | Some j ↦ λ some same. record {
-        op = j.op;
-        is = same ∙ sym (ap (λ (xs : List Carried). sends n (lane_back lane) j.op xs new) (ap items (sym found ∙ found-some item_of (stands lane) (is_of o) js j some)));
-      }
-    ]) refl is
-
-agree_ends : (lane : BridgeLane) (world : World) (n : ℕ) (o : OpId) (outcome : Outcome) (js : List Journey) → 0 < n → Agrees world js → Agrees (moved (item_ends o outcome) lane world) (ends_by n lane o (Some outcome) js)
-agree_ends lane world n o outcome js some agrees =
-    let back : BridgeLane = lane_back lane in
-    let test : Carried → Bool = is_of o in
-    let items : List Carried = reply_to outcome (find test (world lane).standing) in
-    let left : List Journey = leaves n lane test js in
-    let given = ends_answered lane world n o outcome js agrees in
-    let sent : List Journey = sends n back given.op items left in
-    subst (Agrees (moved (item_ends o outcome) lane world)) (sym given.is)
-    (moved_each (λ l s. sees l sent ≡ on_lane s) (item_ends o outcome) lane world
-    (λ l apart apart_back. sees_sends_other n back l given.op items left (other_way back l apart_back) ∙ sees_leaves_other n lane l test js (other_way lane l apart) ∙ agrees l)
-    (sees_sends_other n back lane given.op items left (same_lane_back lane) ∙ sees_leaves_here n lane test js some ∙ ap (λ (s : Seen). seen_from s.flight (less test s.standing)) (agrees lane))
-    (sees_sends_here n back given.op items left ∙ ap (λ (s : Seen). seen_from (s.flight ++ items) s.standing) (sees_leaves_other n lane back test js (back_apart lane) ∙ agrees back)))
-
--- Arrivals.
-
-no_flight : (s : LaneState) → on_lane s ≡ seen_from (s.flight ++ []) s.standing
-no_flight s = ap (λ (f : List Carried). seen_from f s.standing) (sym (append-nil s.flight))
-
-none_standing : (s : LaneState) → on_lane s ≡ seen_from s.flight (s.standing ++ [])
-none_standing s = ap (λ (f : List Carried). seen_from s.flight f) (sym (append-nil s.standing))
-
--- what its effect leaves on the lane of the arrival
-effect_here : (mark : Mark) (item : Carried) (x : Both) → on_lane (takes_effect (effect_of mark item) item x).here ≡ seen_from x.here.flight (x.here.standing ++ stood mark item)
-effect_here Plain (Post op) x = refl
-effect_here Plain (Ask op slot) x = refl
-effect_here Plain (Done op slot outcome) x = refl
-effect_here Plain Room x = none_standing x.here
-effect_here Plain (Gone slot) x = none_standing x.here
-effect_here Discard (Post op) x = refl
-effect_here Discard (Ask op slot) x = refl
-effect_here Discard (Done op slot outcome) x = none_standing x.here
-effect_here Discard Room x = none_standing x.here
-effect_here Discard (Gone slot) x = none_standing x.here
-effect_here Drop (Post op) x = refl
-effect_here Drop (Ask op slot) x = none_standing x.here
-effect_here Drop (Done op slot outcome) x = refl
-effect_here Drop Room x = none_standing x.here
-effect_here Drop (Gone slot) x = none_standing x.here
-
--- and on the lane back
-effect_back : (mark : Mark) (item : Carried) (x : Both) → on_lane (takes_effect (effect_of mark item) item x).back ≡ seen_from (x.back.flight ++ word_of mark item) x.back.standing
-effect_back Plain (Post op) x = no_flight x.back
-effect_back Plain (Ask op slot) x = no_flight x.back
-effect_back Plain (Done op slot outcome) x = no_flight x.back
-effect_back Plain Room x = no_flight x.back
-effect_back Plain (Gone slot) x = no_flight x.back
-effect_back Discard (Post op) x = no_flight x.back
-effect_back Discard (Ask op slot) x = no_flight x.back
-effect_back Discard (Done op slot outcome) x = no_flight x.back
-effect_back Discard Room x = no_flight x.back
-effect_back Discard (Gone slot) x = no_flight x.back
-effect_back Drop (Post op) x = no_flight x.back
-effect_back Drop (Ask op slot) x = refl
-effect_back Drop (Done op slot outcome) x = no_flight x.back
-effect_back Drop Room x = no_flight x.back
-effect_back Drop (Gone slot) x = no_flight x.back
-
--- nothing is in flight there
-arrives_none : (lane : BridgeLane) (mark : Mark) (world : World) (n : ℕ) (js : List Journey) → find (flies lane) js ≡ None → Agrees world js → Agrees (moved (lane_arrives mark) lane world) (arrives n lane mark js)
-arrives_none lane mark world n js none agrees =
-    let x : Both = both world lane in
-    let empty : (world lane).flight ≡ [] = sym (ap (λ (s : Seen). s.flight) (agrees lane)) ∙ first-none item_of (flies lane) js none in
-    let same : arrives n lane mark js ≡ js =
-    ap (λ (f : Option Journey). answers n lane (word_of mark) f (comes n lane mark js)) (item_first (flies lane) js ∙ none) ∙ comes_first n lane mark js ∙ change-none (flies lane) _ js none in
-    subst (Agrees (moved (lane_arrives mark) lane world)) (sym same)
-    (agree_idle (lane_arrives mark) lane world js (ap (λ (f : List Carried). arrives_first mark f x) empty) agrees)
-
--- this one arrives
-arrives_some : (lane : BridgeLane) (mark : Mark) (world : World) (n : ℕ) (js : List Journey) (j : Journey) → 0 < n → Ordered js → find (flies lane) js ≡ Some j → Agrees world js
-    → Agrees (moved (lane_arrives mark) lane world) (arrives n lane mark js)
-arrives_some lane mark world n js j some order found agrees =
-    let back : BridgeLane = lane_back lane in
-    let item : Carried = j.carried in
-    let x : Both = both world lane in
-    let came : List Journey = comes n lane mark js in
-    let rest : List Carried = (sees lane came).flight in
-    let y : Both = record x { here = came_off item rest x.here } in
-    let words : List Carried = word_of mark item in
-    let sent : List Journey = sends n back j.op words came in
-    let seen = sees_comes_here n lane mark js j some (order lane) found in
-    let flight : (world lane).flight ≡ item ∷ rest = sym (ap (λ (s : Seen). s.flight) (agrees lane)) ∙ seen.0 in
-    let effect : lane_arrives mark x ≡ takes_effect (effect_of mark item) item y = ap (λ (f : List Carried). arrives_first mark f x) flight in
-    let standing : (sees lane came).standing ≡ (world lane).standing ++ stood mark item = seen.1 ∙ ap (λ (s : Seen). s.standing ++ stood mark item) (agrees lane) in
-    let is : arrives n lane mark js ≡ sent = ap (λ (f : Option Journey). answers n lane (word_of mark) f came) (item_first (flies lane) js ∙ found) in
-    subst (Agrees (moved (lane_arrives mark) lane world)) (sym is)
-    (moved_each (λ l s. sees l sent ≡ on_lane s) (lane_arrives mark) lane world
-    (λ l apart apart_back. sees_sends_other n back l j.op words came (other_way back l apart_back) ∙ sees_comes_other n lane l mark js (other_way lane l apart) ∙ agrees l)
-    (sees_sends_other n back lane j.op words came (same_lane_back lane) ∙ ap (λ (s : List Carried). seen_from rest s) standing ∙ sym (effect_here mark item y) ∙ sym (ap (λ (z : Both). on_lane z.here) effect))
-    (sees_sends_here n back j.op words came ∙ ap (λ (s : Seen). seen_from (s.flight ++ words) s.standing) (sees_comes_other n lane back mark js (back_apart lane) ∙ agrees back)
-    ∙ sym (effect_back mark item y) ∙ sym (ap (λ (z : Both). on_lane z.back) effect)))
-
-agree_arrives : (lane : BridgeLane) (mark : Mark) (world : World) (n : ℕ) (js : List Journey) → 0 < n → Ordered js → Agrees world js → Agrees (moved (lane_arrives mark) lane world) (arrives n lane mark js)
-agree_arrives lane mark world n js some order agrees =
-    let P : Option Journey → Type 0 = λ f. find (flies lane) js ≡ f → Agrees (moved (lane_arrives mark) lane world) (arrives n lane mark js) in
-    (elim (find (flies lane) js) as P [
-      | None ↦ λ none. arrives_none lane mark world n js none agrees
-      | Some j ↦ λ found. arrives_some lane mark world n js j some order found agrees
+-- a move that changes what is seen of its lane alone
+agree_at : (world : World) (move : Move) (js new : List Journey) → sees (lane_of move) new ≡ on_lane (put_on move (world (lane_of move)))
+    → ((l : BridgeLane) → same_lane (lane_of move) l ≡ false → sees l new ≡ sees l js) → Agrees world js → Agrees (put_move move world) new
+agree_at world move js new here apart agrees l =
+    let P : Bool → Type 0 = λ b. same_lane l (lane_of move) ≡ b → sees l new ≡ on_lane (cond b (put_on move (world l)) (world l)) in
+    (elim (same_lane l (lane_of move)) as P [
+      | true ↦ λ same. subst (λ (k : BridgeLane). sees k new ≡ on_lane (put_on move (world k))) (sym (same_lane_true l (lane_of move) same)) here
+      | false ↦ λ other. apart l (same_lane_symm (lane_of move) l ∙ other) ∙ agrees l
     ]) refl
 
--- Acts.
+-- What comes.
 
-agree_found : (lane : BridgeLane) (world : World) (n : ℕ) (o : OpId) (slot : Option Slot) (js : List Journey) → 0 < n → Agrees world js
-    → Agrees (put world lane (slot_found slot (both world lane))) (claims n o (takes (lane_back lane) slot) js)
-agree_found lane world n o None js some agrees = agree_idle (λ x. x) lane world js refl agrees
-agree_found lane world n o (Some slot) js some agrees = agree_takes lane world n slot.number js some agrees
+-- it is the oldest in flight
+abbrev Comes : World → BridgeLane → Carried → Type 0
+Comes world lane item = (rest : List Carried) × ((world lane).flight ≡ item ∷ rest)
 
-agree_enters : (board : Board) (world : World) (n on : ℕ) (by : By) (o : OpId) (step : Step) (lane : BridgeLane) (js : List Journey) → 0 < n → Agrees world js
-    → Agrees (moved (enters board on by o step) lane world) (claims n o (claimed_at board world on by o step (Lane lane)) js)
-agree_enters board world n on by o Land lane js some agrees = agree_idle (λ x. x) lane world js refl agrees
-agree_enters board world n on by o (Part phases) lane js some agrees = agree_idle (λ x. x) lane world js refl agrees
-agree_enters board world n on by o (Read value) lane js some agrees = agree_idle (λ x. x) lane world js refl agrees
-agree_enters board world n on by o Accept lane js some agrees = agree_sends (post_enters o) lane world n o (Post o ∷ []) js refl refl agrees
-agree_enters board world n on by o Latch lane js some agrees = agree_sends (ask_enters by o) lane world n o (Ask o (lowest_free (world lane).held) ∷ []) js refl refl agrees
-agree_enters board world n on by o (Take outcome) lane js some agrees = agree_found lane world n o (find (is_own board on by o) (world lane).held) js some agrees
-agree_enters board world n on by o Stall lane js some agrees = agree_idle (λ x. x) lane world js refl agrees
-agree_enters board world n on by o MasterAbort lane js some agrees = agree_idle (λ x. x) lane world js refl agrees
-agree_enters board world n on by o TargetAbort lane js some agrees = agree_idle (λ x. x) lane world js refl agrees
+-- what the journeys have on the lane then
+record Comes_so (n : ℕ) (lane : BridgeLane) (lost : Bool) (item : Carried) (world : World) (js : List Journey) : Type 0 where
+  flight : (sees lane (comes n lane lost js)).flight ≡ younger (world lane).flight
+  standing : (sees lane (comes n lane lost js)).standing ≡ (world lane).standing ++ stood lost item
 
-agree_claims : (board : Board) (world : World) (n on : ℕ) (by : By) (o : OpId) (step : Step) (place : Place) (js : List Journey) → 0 < n → Agrees world js
-    → Agrees (at_place board on by o step place world) (claims n o (claimed_at board world on by o step place) js)
-agree_claims board world n on by o step (Target target) js some agrees = agrees
-agree_claims board world n on by o step (Header bus) js some agrees = agrees
-agree_claims board world n on by o step (Lane lane) js some agrees = agree_enters board world n on by o step lane js some agrees
-agree_claims board world n on by o step Nobody js some agrees = agrees
+comes_so : (n : ℕ) (lane : BridgeLane) (lost : Bool) (item : Carried) (world : World) (js : List Journey) → 0 < n → Ordered js → Agrees world js → Comes world lane item → Comes_so n lane lost item world js
+comes_so n lane lost item world js some order agrees (rest, flight) =
+    let new : List Journey = comes n lane lost js in
+    let flown : (sees lane js).flight ≡ item ∷ rest = ap (λ (s : Seen). s.flight) (agrees lane) ∙ flight in
+    let later : younger (world lane).flight ≡ rest = ap younger flight in
+    let P : Option Journey → Type 0 = λ found. find (flies lane) js ≡ found → Comes_so n lane lost item world js in
+    (elim (find (flies lane) js) as P [
+      | None ↦ λ none. let empty : (sees lane js).flight ≡ [] = first-none item_of (flies lane) js none in cc
+      | Some j ↦ λ found.
+          let seen = sees_comes_here n lane lost js j some (order lane) found in
+          let both : j.carried ∷ (sees lane new).flight ≡ item ∷ rest = sym seen.0 ∙ flown in
+          let same : j.carried ≡ item = cc in
+          let left : (sees lane new).flight ≡ rest = cc in
+          record {
+            flight = left ∙ sym later;
+            standing = seen.1 ∙ ap (λ (s : Seen). s.standing ++ stood lost j.carried) (agrees lane) ∙ ap (λ (it : Carried). (world lane).standing ++ stood lost it) same;
+          }
+    ]) refl
 
-agree_ends_by : (lane : BridgeLane) (world : World) (n : ℕ) (o : OpId) (outcome : Option Outcome) (js : List Journey) → 0 < n → Agrees world js → Agrees (lane_leaves lane o outcome world) (ends_by n lane o outcome js)
-agree_ends_by lane world n o None js some agrees = agrees
-agree_ends_by lane world n o (Some outcome) js some agrees = agree_ends lane world n o outcome js some agrees
+stands_so : (item : Carried) → can_stand item ≡ true → stood false item ≡ item ∷ []
+stands_so item can = ap (λ (b : Bool). cond (b && true) (item ∷ []) []) can
 
-agree_initiator : (board : Board) (world : World) (n : ℕ) (by : By) (o : OpId) (step : Step) (js : List Journey) → 0 < n → Agrees world js → Agrees (at_initiator board by o step world) (ends board n by o step js)
-agree_initiator board world n Master o step js some agrees = agrees
-agree_initiator board world n (ByLane lane) o step js some agrees = agree_ends_by lane world n o (lane_outcome board lane o step) js some agrees
+lost_so : (item : Carried) → stood true item ≡ []
+lost_so item =
+    let P : Bool → Type 0 = λ b. cond (not b && (b && true)) (item ∷ []) [] ≡ [] in
+    elim (can_stand item) as P [ true ↦ refl | false ↦ refl ]
+
+-- Moves that fit what is on the lanes: what comes is the oldest in flight, and what stands then can stand.
+
+abbrev Fits : Move → World → Type 0
+Fits (Sent lane o item) world = Unit {0}
+Fits (Came lane item) world = Comes world lane item × (can_stand item ≡ true)
+Fits (Lost lane item) world = Comes world lane item
+Fits (Left lane item) world = Unit {0}
+Fits (Held lane slot) world = Unit {0}
+Fits (Freed lane number) world = Unit {0}
+Fits (Owed lane) world = Unit {0}
+Fits (Paid lane) world = Unit {0}
+
+-- one after another
+abbrev AllFit : List Move → World → Type 0
+AllFit [] world = Unit {0}
+AllFit (move ∷ moves) world = Fits move world × AllFit moves (put_move move world)
+
+agree_move : (n : ℕ) (move : Move) (world : World) (js : List Journey) → 0 < n → Fits move world → Ordered js → Agrees world js → Agrees (put_move move world) (move_on n move js)
+agree_move n (Sent lane o item) world js some fits order agrees =
+    agree_at world (Sent lane o item) js (sends n lane o (item ∷ []) js)
+    (sees_sends_here n lane o (item ∷ []) js ∙ ap (λ (s : Seen). seen_from (s.flight ++ item ∷ []) s.standing) (agrees lane))
+    (λ l other. sees_sends_other n lane l o (item ∷ []) js other) agrees
+agree_move n (Came lane item) world js some fits order agrees =
+    let so = comes_so n lane false item world js some order agrees fits.0 in
+    agree_at world (Came lane item) js (comes n lane false js)
+    (seen_same _ _ _ _ so.flight (so.standing ∙ ap (λ (xs : List Carried). (world lane).standing ++ xs) (stands_so item fits.1)))
+    (λ l other. sees_comes_other n lane l false js other) agrees
+agree_move n (Lost lane item) world js some fits order agrees =
+    let so = comes_so n lane true item world js some order agrees fits in
+    agree_at world (Lost lane item) js (comes n lane true js)
+    (seen_same _ _ _ _ so.flight (so.standing ∙ ap (λ (xs : List Carried). (world lane).standing ++ xs) (lost_so item) ∙ append-nil (world lane).standing))
+    (λ l other. sees_comes_other n lane l true js other) agrees
+agree_move n (Left lane item) world js some fits order agrees =
+    agree_at world (Left lane item) js (leaves n lane (is_like item) js)
+    (sees_leaves_here n lane (is_like item) js some ∙ ap (λ (s : Seen). seen_from s.flight (less (is_like item) s.standing)) (agrees lane))
+    (λ l other. sees_leaves_other n lane l (is_like item) js other) agrees
+agree_move n (Held lane slot) world js some fits order agrees = agree_at world (Held lane slot) js js (agrees lane) (λ l _. refl) agrees
+agree_move n (Freed lane number) world js some fits order agrees = agree_at world (Freed lane number) js js (agrees lane) (λ l _. refl) agrees
+agree_move n (Owed lane) world js some fits order agrees = agree_at world (Owed lane) js js (agrees lane) (λ l _. refl) agrees
+agree_move n (Paid lane) world js some fits order agrees = agree_at world (Paid lane) js js (agrees lane) (λ l _. refl) agrees
+
+agree_all : (n : ℕ) (moves : List Move) (world : World) (js : List Journey) → 0 < n → AllFit moves world → Ordered js → Agrees world js → Agrees (put_moves moves world) (moves_on n moves js)
+agree_all n [] world js some fits order agrees = agrees
+agree_all n (move ∷ moves) world js some fits order agrees =
+    agree_all n moves (put_move move world) (move_on n move js) some fits.1 (move_keeps n Ordered (order_keeps n some) move js order)
+    (agree_move n move world js some fits.0 order agrees)
+
+-- The moves of an event fit.
+
+-- of an act nothing comes
+abbrev Still : Move → Type 0
+Still (Sent lane o item) = Unit {0}
+Still (Came lane item) = ⊥
+Still (Lost lane item) = ⊥
+Still (Left lane item) = Unit {0}
+Still (Held lane slot) = Unit {0}
+Still (Freed lane number) = Unit {0}
+Still (Owed lane) = Unit {0}
+Still (Paid lane) = Unit {0}
+
+abbrev AllStill : List Move → Type 0
+AllStill [] = Unit {0}
+AllStill (move ∷ moves) = Still move × AllStill moves
+
+still_fits : (move : Move) (world : World) → Still move → Fits move world
+still_fits (Sent lane o item) world still = tt
+still_fits (Came lane item) world still = absurd still
+still_fits (Lost lane item) world still = absurd still
+still_fits (Left lane item) world still = tt
+still_fits (Held lane slot) world still = tt
+still_fits (Freed lane number) world still = tt
+still_fits (Owed lane) world still = tt
+still_fits (Paid lane) world still = tt
+
+all_still_fit : (moves : List Move) (world : World) → AllStill moves → AllFit moves world
+all_still_fit [] world still = tt
+all_still_fit (move ∷ moves) world still = (still_fits move world still.0, all_still_fit moves (put_move move world) still.1)
+
+still_append : (xs ys : List Move) → AllStill xs → AllStill ys → AllStill (xs ++ ys)
+still_append [] ys first second = second
+still_append (x ∷ xs) ys first second = (first.0, still_append xs ys first.1 second)
+
+latch_still : (lane : BridgeLane) (by : By) (o : OpId) (slot : Option ℕ) → AllStill (latch_moves lane by o slot)
+latch_still lane by o None = tt
+latch_still lane by o (Some number) = (tt, (tt, tt))
+
+take_still : (lane : BridgeLane) (o : OpId) (outcome : Outcome) (slot : Option ℕ) → AllStill (take_moves lane o outcome slot)
+take_still lane o outcome None = tt
+take_still lane o outcome (Some number) = (tt, (tt, tt))
+
+claim_still : (lane : BridgeLane) (by : By) (o : OpId) (step : Step) (slot : Option ℕ) → AllStill (claim_moves lane by o step slot)
+claim_still lane by o Land slot = tt
+claim_still lane by o (Part phases) slot = tt
+claim_still lane by o (Read value) slot = tt
+claim_still lane by o Accept slot = (tt, (tt, tt))
+claim_still lane by o Latch slot = latch_still lane by o slot
+claim_still lane by o (Take outcome) slot = take_still lane o outcome slot
+claim_still lane by o Stall slot = tt
+claim_still lane by o MasterAbort slot = tt
+claim_still lane by o TargetAbort slot = tt
+
+place_still : (by : By) (o : OpId) (step : Step) (place : Place) (slot : Option ℕ) → AllStill (place_moves by o step place slot)
+place_still by o step (Target target) slot = tt
+place_still by o step (Header bus) slot = tt
+place_still by o step (Lane lane) slot = claim_still lane by o step slot
+place_still by o step Nobody slot = tt
+
+end_still : (lane : BridgeLane) (o : OpId) (outcome : Option Outcome) (item : Option Carried) → AllStill (end_moves lane o outcome item)
+end_still lane o None item = tt
+end_still lane o (Some outcome) None = tt
+end_still lane o (Some outcome) (Some (Post op)) = (tt, (tt, tt))
+end_still lane o (Some outcome) (Some (Ask op slot)) = (tt, (tt, tt))
+end_still lane o (Some outcome) (Some (Done op slot given)) = (tt, tt)
+end_still lane o (Some outcome) (Some Room) = (tt, tt)
+end_still lane o (Some outcome) (Some (Gone slot)) = (tt, tt)
+
+initiator_still : (board : Board) (by : By) (o : OpId) (step : Step) (item : Option Carried) → AllStill (initiator_moves board by o step item)
+initiator_still board Master o step item = tt
+initiator_still board (ByLane lane) o step item = end_still lane o (lane_outcome board lane o step) item
+
+-- what arrives was the oldest in flight
+arrival_fits : (lane : BridgeLane) (mark : Mark) (flight : List Carried) (world : World) → (world lane).flight ≡ flight → AllFit (arrival_moves lane mark (oldest flight)) world
+arrival_fits lane mark [] world is = tt
+arrival_fits lane mark (Post op ∷ rest) world is = (((rest, is), refl), tt)
+arrival_fits lane Plain (Ask op slot ∷ rest) world is = (((rest, is), refl), tt)
+arrival_fits lane Discard (Ask op slot ∷ rest) world is = (((rest, is), refl), tt)
+arrival_fits lane Drop (Ask op slot ∷ rest) world is = ((rest, is), (tt, tt))
+arrival_fits lane Plain (Done op slot outcome ∷ rest) world is = (((rest, is), refl), tt)
+arrival_fits lane Discard (Done op slot outcome ∷ rest) world is = ((rest, is), (tt, tt))
+arrival_fits lane Drop (Done op slot outcome ∷ rest) world is = (((rest, is), refl), tt)
+arrival_fits lane mark (Room ∷ rest) world is = ((rest, is), (tt, tt))
+arrival_fits lane mark (Gone slot ∷ rest) world is = ((rest, is), (tt, tt))
+
+next_fits : (board : Board) (world : World) (e : Event) → AllFit (moves_in Tagged board e (moved_by Tagged board world e)) world
+next_fits board world (Act on by o step place) =
+    let slot : Option ℕ = slot_at board on by o step place world in
+    let item : Option Carried = item_by board by o step world in
+    all_still_fit (place_moves by o step place slot ++ initiator_moves board by o step item) world
+    (still_append (place_moves by o step place slot) (initiator_moves board by o step item) (place_still by o step place slot) (initiator_still board by o step item))
+next_fits board world (Arrive lane mark) = arrival_fits lane mark (world lane).flight world refl
 
 -- one more event
 pub agree_next : (board : Board) (world : World) (n : ℕ) (e : Event) (js : List Journey) → 0 < n → Ordered js → Agrees world js → Agrees (after board world e) (next board world n e js)
-agree_next board world n (Act on by o step place) js some order agrees =
-    agree_initiator board (at_place board on by o step place world) n by o step (claims n o (claimed_at board world on by o step place) js) some
-    (agree_claims board world n on by o step place js some agrees)
-agree_next board world n (Arrive lane mark) js some order agrees = agree_arrives lane mark world n js some order agrees
+agree_next board world n e js some order agrees l =
+    let moves : List Move = moves_in Tagged board e (moved_by Tagged board world e) in
+    agree_all n moves world js some (next_fits board world e) order agrees l ∙ ap on_lane (moves_after Tagged board world e l)

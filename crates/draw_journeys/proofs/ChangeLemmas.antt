@@ -4,7 +4,6 @@ use Rattle.std.specs.List.{filter, find, position_from, AllByRecursion}
 use Rattle.std.proofs.Math.ListN.{set}
 use Rattle.std.proofs.lemmas.List.{map-append, length_push}
 use Rattle.list_facts.specs.Lists.{less, changed_at, changed_with}
-use Rattle.draw_journeys.specs.Steps.{item_at}
 
 -- the first that passes is changed
 abbrev pub change_first : {X : Type 0} → (X → Bool) → (X → X) → List X → List X
@@ -40,22 +39,6 @@ changed_from {X} test f pre (x ∷ xs) =
 -- what is at its place is changed
 pub changed_first : {X : Type 0} (test : X → Bool) (f : X → X) (xs : List X) → changed_at f xs (position_from test 0 xs) ≡ change_first test f xs
 changed_first test f xs = changed_from test f [] xs
-
-item_from : {X : Type 0} (test : X → Bool) (pre xs : List X) → item_at (pre ++ xs) (position_from test (length pre) xs) ≡ find test xs
-item_from test pre [] = refl
-item_from {X} test pre (x ∷ xs) =
-    let P : Bool → Type 0 = λ b. item_at (pre ++ x ∷ xs) (cond b (Some (length pre)) (position_from test (length pre + 1) xs)) ≡ cond b (Some x) (find test xs) in
-    elim (test x) as P [
-      | true ↦ at_end pre x xs
-      | false ↦
-          ap (λ (n : ℕ). item_at (pre ++ x ∷ xs) (position_from test n xs)) (sym (length_push pre x))
-          ∙ ap (λ (l : List X). item_at l (position_from test (length (pre ++ x ∷ [])) xs)) (sym (append_assoc pre (x ∷ []) xs))
-          ∙ item_from test (pre ++ x ∷ []) xs
-    ]
-
--- what is at its place is found
-pub item_first : {X : Type 0} (test : X → Bool) (xs : List X) → item_at xs (position_from test 0 xs) ≡ find test xs
-item_first test xs = item_from test [] xs
 
 -- What a filter keeps.
 
@@ -112,42 +95,12 @@ kept-change_less {X} {Y} c q p f gone (x ∷ xs) =
       | false ↦ λ is. ap (λ (b : Bool). map c (cond b (x ∷ filter q new) (filter q new))) is ∙ later
     ]) refl
 
--- what is found among those that are kept
-pub found-none : {X Y : Type 0} (c : X → Y) (q : X → Bool) (p : Y → Bool) (xs : List X) → find (both c q p) xs ≡ None → find p (kept c q xs) ≡ None
-found-none c q p [] none = refl
-found-none {X} c q p (x ∷ xs) none =
-    let P : Bool → Type 0 = λ b. cond (b && p (c x)) (Some x) (find (both c q p) xs) ≡ None → find p (map c (cond b (x ∷ filter q xs) (filter q xs))) ≡ None in
-    let Q : Bool → Type 0 = λ b. cond b (Some x) (find (both c q p) xs) ≡ None → cond b (Some (c x)) (find p (kept c q xs)) ≡ None in
-    (elim (q x) as P [
-      | true ↦ λ e. (elim (p (c x)) as Q [ true ↦ λ some. cc | false ↦ λ rest. found-none c q p xs rest ]) e
-      | false ↦ λ e. found-none c q p xs e
-    ]) none
-
-pub found-some : {X Y : Type 0} (c : X → Y) (q : X → Bool) (p : Y → Bool) (xs : List X) (y : X) → find (both c q p) xs ≡ Some y → find p (kept c q xs) ≡ Some (c y)
-found-some c q p [] y some = cc
-found-some {X} c q p (x ∷ xs) y some =
-    let P : Bool → Type 0 = λ b. cond (b && p (c x)) (Some x) (find (both c q p) xs) ≡ Some y → find p (map c (cond b (x ∷ filter q xs) (filter q xs))) ≡ Some (c y) in
-    let Q : Bool → Type 0 = λ b. cond b (Some x) (find (both c q p) xs) ≡ Some y → cond b (Some (c x)) (find p (kept c q xs)) ≡ Some (c y) in
-    (elim (q x) as P [
-      | true ↦ λ e. (elim (p (c x)) as Q [
-        | true ↦ λ is. let same : x ≡ y = cc in ap (λ (z : X). Some (c z)) same
-        | false ↦ λ rest. found-some c q p xs y rest
-      ]) e
-      | false ↦ λ e. found-some c q p xs y e
-    ]) some
-
--- where none is found nothing is kept, and nothing is changed
+-- where none is found nothing is kept
 pub first-none : {X Y : Type 0} (c : X → Y) (q : X → Bool) (xs : List X) → find q xs ≡ None → kept c q xs ≡ []
 first-none c q [] none = refl
 first-none {X} c q (x ∷ xs) none =
     let P : Bool → Type 0 = λ b. cond b (Some x) (find q xs) ≡ None → map c (cond b (x ∷ filter q xs) (filter q xs)) ≡ [] in
     (elim (q x) as P [ true ↦ λ some. cc | false ↦ λ rest. first-none c q xs rest ]) none
-
-pub change-none : {X : Type 0} (q : X → Bool) (f : X → X) (xs : List X) → find q xs ≡ None → change_first q f xs ≡ xs
-change-none q f [] none = refl
-change-none {X} q f (x ∷ xs) none =
-    let P : Bool → Type 0 = λ b. cond b (Some x) (find q xs) ≡ None → cond b (f x ∷ xs) (x ∷ change_first q f xs) ≡ x ∷ xs in
-    (elim (q x) as P [ true ↦ λ some. cc | false ↦ λ rest. ap (λ (l : List X). x ∷ l) (change-none q f xs rest) ]) none
 
 -- where one is found it is the first that is kept, and it is taken out
 pub first-some : {X Y : Type 0} (c : X → Y) (q : X → Bool) (f : X → X) → ((x : X) → q (f x) ≡ false) → (xs : List X) (y : X) → find q xs ≡ Some y → kept c q xs ≡ c y ∷ kept c q (change_first q f xs)

@@ -1,29 +1,23 @@
 -- What each change keeps, an event keeps: the order, the past, and that nothing is later.
-use Rattle.std.proofs.Common.{◌≡◌, ℕ, ◌+◌, ◌<◌, ◌≤◌, Bool, true, false, not, ◌&&◌, eqb, nat_lt, nat_le, List, [], ◌∷◌, map, Option, Some, None, refl, sym, ap, subst, ◌∙◌, arith, eqb-true}
-use Rattle.std.specs.List.{position_from, AllByRecursion}
+use Rattle.std.proofs.Common.{◌≡◌, ℕ, ◌+◌, ◌<◌, ◌≤◌, Bool, true, false, not, ◌&&◌, eqb, nat_lt, nat_le, List, [], ◌∷◌, map, refl, sym, ap, subst, ◌∙◌, arith, eqb-true}
+use Rattle.std.specs.List.{AllByRecursion}
 use Rattle.std.proofs.lemmas.Bool.Decides.{nat_tests}
 use Rattle.list_facts.proofs.EachLemmas.{Each-append, Each-weaker}
 use Rattle.pci_command.specs.declared.op_id.OpId.{OpId}
-use Rattle.pci_command.specs.declared.op_id.Outcome.{Outcome}
 use Rattle.board_model.specs.declared.bridge.Lane.{Lane as BridgeLane}
 use Rattle.board_model.specs.declared.board.Board.{Board}
-use Rattle.board_model.specs.Ways.{lane_back}
-use Rattle.history_model.specs.declared.event.By.{By}
-use Rattle.history_model.specs.declared.event.By.TheVariants.{Master, Lane as ByLane}
-use Rattle.history_model.specs.declared.event.Mark.{Mark}
-use Rattle.history_model.specs.declared.event.Step.{Step}
 use Rattle.history_model.specs.declared.event.Event.{Event}
-use Rattle.history_model.specs.declared.event.Event.TheVariants.{Act, Arrive}
 use Rattle.history_model.specs.declared.item.Carried.{Carried}
-use Rattle.history_model.specs.Lanes.{is_of, is_done_for}
-use Rattle.history_model.specs.World.{World, same_lane, lane_outcome}
+use Rattle.history_model.specs.declared.item.Move.{Move}
+use Rattle.history_model.specs.declared.item.Move.TheVariants.{Sent, Came, Lost, Left, Held, Freed, Owed, Paid}
+use Rattle.history_model.specs.declared.rule.Rule.TheVariants.{Tagged}
+use Rattle.history_model.specs.World.{World, same_lane}
+use Rattle.history_model.specs.Moves.{is_like, moved_by, moves_in}
 use Rattle.history_model.proofs.facts.BridgeLemmas.{same_lane_true}
 use Rattle.draw_items.specs.declared.journey.Journey.{Journey}
-use Rattle.draw_journeys.specs.declared.claimed.Claimed.{Claimed}
-use Rattle.draw_journeys.specs.declared.claimed.Claimed.TheVariants.{Sends, Takes, Nothing}
 use Rattle.draw_items.specs.Journeys.{can_stand, has_come, has_left, flies_at, stands_at, flies, stands, is_there}
 use Rattle.draw_journeys.specs.Journeys.{IsWithin}
-use Rattle.draw_journeys.specs.Steps.{item_at, begins, sends, leaving, leaves, answers, coming, comes, least_free, tracks_on, word_of, reply, claimed_at, claims, ends_by, ends, next}
+use Rattle.draw_journeys.specs.Steps.{begins, sends, leaving, leaves, coming, comes, least_free, tracks_on, move_on, moves_on, next}
 use Rattle.draw_journeys.proofs.ChangeLemmas.{change_first, kept, kept-append_none, kept-change_same}
 use Rattle.draw_journeys.proofs.OrderLemmas.{InOrder, order-append, order-none, order-change, order-come, filter-agree, Each-change, Each-map}
 use Rattle.draw_journeys.proofs.SeenLemmas.{Seen, seen_from, seen_same, item_of, sees, first_true, second_true, and_false, away, flies_lane, there_stands, none_stand, left_stands, leaves_first, came_flies, comes_first}
@@ -32,32 +26,24 @@ use Rattle.draw_journeys.proofs.SeenLemmas.{Seen, seen_from, seen_same, item_of,
 pub record KeptBy (n : ℕ) (P : List Journey → Type 0) : Type 0 where
   pub sends : (a : BridgeLane) (o : OpId) (items : List Carried) (js : List Journey) → P js → P (sends n a o items js)
   pub leaves : (a : BridgeLane) (test : Carried → Bool) (js : List Journey) → P js → P (leaves n a test js)
-  pub comes : (a : BridgeLane) (mark : Mark) (js : List Journey) → P js → P (comes n a mark js)
+  pub comes : (a : BridgeLane) (lost : Bool) (js : List Journey) → P js → P (comes n a lost js)
 
-answers_keep : (n : ℕ) (P : List Journey → Type 0) → KeptBy n P → (a : BridgeLane) (reply : Carried → List Carried) (found : Option Journey) (js : List Journey) → P js → P (answers n a reply found js)
-answers_keep n P keeps a reply None js holds = holds
-answers_keep n P keeps a reply (Some j) js holds = keeps.sends (lane_back a) j.op (reply j.carried) js holds
+pub move_keeps : (n : ℕ) (P : List Journey → Type 0) → KeptBy n P → (move : Move) (js : List Journey) → P js → P (move_on n move js)
+move_keeps n P keeps (Sent lane o item) js holds = keeps.sends lane o (item ∷ []) js holds
+move_keeps n P keeps (Came lane item) js holds = keeps.comes lane false js holds
+move_keeps n P keeps (Lost lane item) js holds = keeps.comes lane true js holds
+move_keeps n P keeps (Left lane item) js holds = keeps.leaves lane (is_like item) js holds
+move_keeps n P keeps (Held lane slot) js holds = holds
+move_keeps n P keeps (Freed lane number) js holds = holds
+move_keeps n P keeps (Owed lane) js holds = holds
+move_keeps n P keeps (Paid lane) js holds = holds
 
-claims_keep : (n : ℕ) (P : List Journey → Type 0) → KeptBy n P → (o : OpId) (claimed : Claimed) (js : List Journey) → P js → P (claims n o claimed js)
-claims_keep n P keeps o (Sends lane item) js holds = keeps.sends lane o (item ∷ []) js holds
-claims_keep n P keeps o (Takes lane slot) js holds = keeps.leaves lane (is_done_for slot) js holds
-claims_keep n P keeps o Nothing js holds = holds
-
-ends_keep_by : (n : ℕ) (P : List Journey → Type 0) → KeptBy n P → (lane : BridgeLane) (o : OpId) (outcome : Option Outcome) (js : List Journey) → P js → P (ends_by n lane o outcome js)
-ends_keep_by n P keeps lane o None js holds = holds
-ends_keep_by n P keeps lane o (Some outcome) js holds =
-    answers_keep n P keeps lane (reply outcome) (item_at js (position_from (is_there lane (is_of o)) 0 js)) (leaves n lane (is_of o) js) (keeps.leaves lane (is_of o) js holds)
-
-ends_keep : (board : Board) (n : ℕ) (P : List Journey → Type 0) → KeptBy n P → (by : By) (o : OpId) (step : Step) (js : List Journey) → P js → P (ends board n by o step js)
-ends_keep board n P keeps Master o step js holds = holds
-ends_keep board n P keeps (ByLane lane) o step js holds = ends_keep_by n P keeps lane o (lane_outcome board lane o step) js holds
+moves_keep : (n : ℕ) (P : List Journey → Type 0) → KeptBy n P → (moves : List Move) (js : List Journey) → P js → P (moves_on n moves js)
+moves_keep n P keeps [] js holds = holds
+moves_keep n P keeps (move ∷ moves) js holds = moves_keep n P keeps moves (move_on n move js) (move_keeps n P keeps move js holds)
 
 pub next_keeps : (board : Board) (world : World) (n : ℕ) (P : List Journey → Type 0) → KeptBy n P → (e : Event) (js : List Journey) → P js → P (next board world n e js)
-next_keeps board world n P keeps (Act on by o step place) js holds =
-    let claimed = claimed_at board world on by o step place in
-    ends_keep board n P keeps by o step (claims n o claimed js) (claims_keep n P keeps o claimed js holds)
-next_keeps board world n P keeps (Arrive lane mark) js holds =
-    answers_keep n P keeps lane (word_of mark) (item_at js (position_from (flies lane) 0 js)) (comes n lane mark js) (keeps.comes lane mark js holds)
+next_keeps board world n P keeps e js holds = moves_keep n P keeps (moves_in Tagged board e (moved_by Tagged board world e)) js holds
 
 -- The order: on each lane, behind one that flies none stands.
 
@@ -74,12 +60,12 @@ order_leaves n a test js some order l =
     let out : (j : Journey) → is_there a test j ≡ true → stands l (leaving n j) ≡ true → stands l j ≡ true = λ j _ passes. (let wrong : stands l (leaving n j) ≡ false = left_stands n l j some in cc) in
     subst (λ xs. InOrder (flies l) (stands l) xs) (sym (leaves_first n a test js)) (order-change (flies l) (stands l) (is_there a test) (leaving n) (λ j _ passes. passes) out js (order l))
 
-order_comes : (n : ℕ) (a : BridgeLane) (mark : Mark) (js : List Journey) → 0 < n → Ordered js → Ordered (comes n a mark js)
-order_comes n a mark js some order l =
+order_comes : (n : ℕ) (a : BridgeLane) (lost : Bool) (js : List Journey) → 0 < n → Ordered js → Ordered (comes n a lost js)
+order_comes n a lost js some order l =
     let track : ℕ = least_free (tracks_on a js) in
-    let f : Journey → Journey = coming n mark track in
+    let f : Journey → Journey = coming n lost track in
     let new : List Journey = change_first (flies a) f js in
-    let gone : (k : BridgeLane) (j : Journey) → flies k (f j) ≡ false = λ k j. came_flies n mark track k j some in
+    let gone : (k : BridgeLane) (j : Journey) → flies k (f j) ≡ false = λ k j. came_flies n lost track k j some in
     let P : Bool → Type 0 = λ b. same_lane a l ≡ b → InOrder (flies l) (stands l) new in
     let ordered : InOrder (flies l) (stands l) new = (elim (same_lane a l) as P [
       | true ↦ λ same. subst (λ k. InOrder (flies k) (stands k) new) (same_lane_true a l same) (order-come (flies a) (stands a) f (gone a) js (order a))
@@ -90,13 +76,13 @@ order_comes n a mark js some order l =
           let out : same_lane j.lane l ≡ false = away j a l (flies_lane a j is) other in cc
           )) js (order l)
     ]) refl in
-    subst (λ xs. InOrder (flies l) (stands l) xs) (sym (comes_first n a mark js)) ordered
+    subst (λ xs. InOrder (flies l) (stands l) xs) (sym (comes_first n a lost js)) ordered
 
 pub order_keeps : (n : ℕ) → 0 < n → KeptBy n Ordered
 order_keeps n some = record {
   sends = λ a o items js order. order_sends n a o items js order;
   leaves = λ a test js order. order_leaves n a test js some order;
-  comes = λ a mark js order. order_comes n a mark js some order;
+  comes = λ a lost js order. order_comes n a lost js some order;
 }
 
 -- The past: an event changes nothing of what was seen after fewer events.
@@ -131,14 +117,14 @@ past_leaves m n l a test js before =
     (kept-change_same item_of (flies_at m l) (is_there a test) (leaving n) (λ j _. (refl, refl)) js)
     (kept-change_same item_of (stands_at m l) (is_there a test) (leaving n) (λ j is. (ap (side j) (not_yet m n before) ∙ sym (ap (side j) (never m j.left (stays j is))), refl)) js)
 
-past_comes : (m n : ℕ) (l a : BridgeLane) (mark : Mark) (js : List Journey) → m < n → sees_at m l (comes n a mark js) ≡ sees_at m l js
-past_comes m n l a mark js before =
-    let f : Journey → Journey = coming n mark (least_free (tracks_on a js)) in
+past_comes : (m n : ℕ) (l a : BridgeLane) (lost : Bool) (js : List Journey) → m < n → sees_at m l (comes n a lost js) ≡ sees_at m l js
+past_comes m n l a lost js before =
+    let f : Journey → Journey = coming n lost (least_free (tracks_on a js)) in
     let none : (j : Journey) → flies a j ≡ true → has_come m j ≡ false = λ j is. never m j.came (second_true (same_lane j.lane a) _ is) in
     let side : Journey → Bool → Bool = λ j b. same_lane j.lane l && (nat_le j.sent m && not b) in
     let rest : Journey → Bool = λ j. not j.marked && (can_stand j.carried && not (has_left m j)) in
     let out : (j : Journey) (b : Bool) → b ≡ false → (same_lane j.lane l && (b && rest j)) ≡ false = λ j b is. ap (λ (t : Bool). same_lane j.lane l && (t && rest j)) is ∙ and_false (same_lane j.lane l) in
-    ap (λ xs. sees_at m l xs) (comes_first n a mark js)
+    ap (λ xs. sees_at m l xs) (comes_first n a lost js)
     ∙ seen_same _ _ _ _
     (kept-change_same item_of (flies_at m l) (flies a) f (λ j is. (ap (side j) (not_yet m n before) ∙ sym (ap (side j) (none j is)), refl)) js)
     (kept-change_same item_of (stands_at m l) (flies a) f (λ j is. (out (f j) (has_come m (f j)) (not_yet m n before) ∙ sym (out j (has_come m j) (none j is)), refl)) js)
@@ -151,7 +137,7 @@ pub past_keeps : (m n : ℕ) (l : BridgeLane) (seen : Seen) → m < n → KeptBy
 past_keeps m n l seen before = record {
   sends = λ a o items js saw. past_sends m n l a o items js before ∙ saw;
   leaves = λ a test js saw. past_leaves m n l a test js before ∙ saw;
-  comes = λ a mark js saw. past_comes m n l a mark js before ∙ saw;
+  comes = λ a lost js saw. past_comes m n l a lost js before ∙ saw;
 }
 
 -- Nothing is later than this event.
@@ -165,8 +151,8 @@ within_keeps n = record {
       (Each-map (IsWithin n) (begins n a o) (λ item. record { sent = omega arith; came = omega arith; left = omega arith }) items);
   leaves = λ a test js within. subst (Within n) (sym (leaves_first n a test js))
       (Each-change (IsWithin n) (is_there a test) (leaving n) (λ j is. record { sent = is.sent; came = is.came; left = omega arith }) js within);
-  comes = λ a mark js within. subst (Within n) (sym (comes_first n a mark js))
-      (Each-change (IsWithin n) (flies a) (coming n mark (least_free (tracks_on a js))) (λ j is. record { sent = is.sent; came = omega arith; left = omega arith }) js within);
+  comes = λ a lost js within. subst (Within n) (sym (comes_first n a lost js))
+      (Each-change (IsWithin n) (flies a) (coming n lost (least_free (tracks_on a js))) (λ j is. record { sent = is.sent; came = omega arith; left = omega arith }) js within);
 }
 
 pub within_more : (n : ℕ) (js : List Journey) → Within n js → Within (n + 1) js

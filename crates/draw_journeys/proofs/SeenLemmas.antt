@@ -6,14 +6,13 @@ use Rattle.list_facts.specs.Lists.{less}
 use Rattle.list_facts.proofs.FindLemmas.{find_passes}
 use Rattle.pci_command.specs.declared.op_id.OpId.{OpId}
 use Rattle.board_model.specs.declared.bridge.Lane.{Lane as BridgeLane}
-use Rattle.history_model.specs.declared.event.Mark.{Mark}
 use Rattle.history_model.specs.declared.item.Carried.{Carried}
 use Rattle.history_model.specs.Lanes.{LaneState}
 use Rattle.history_model.specs.World.{same_lane}
 use Rattle.history_model.proofs.facts.BridgeLemmas.{same_lane_true, same_lane_self}
 use Rattle.draw_items.specs.declared.journey.Journey.{Journey}
 use Rattle.draw_items.specs.Journeys.{can_stand, flies, stands, is_there}
-use Rattle.draw_journeys.specs.Steps.{begins, sends, leaving, leaves, is_lost, coming, comes, least_free, tracks_on}
+use Rattle.draw_journeys.specs.Steps.{begins, sends, leaving, leaves, coming, comes, least_free, tracks_on}
 use Rattle.draw_journeys.proofs.ChangeLemmas.{change_first, kept, changed_first, kept-append, kept-append_none, kept-change_same, kept-change_less, first-some}
 use Rattle.draw_journeys.proofs.OrderLemmas.{InOrder, kept-come, Each-map}
 
@@ -142,43 +141,43 @@ sees_leaves_other n a l test js other =
 
 -- Coming.
 
-pub came_flies : (n : ℕ) (mark : Mark) (track : ℕ) (l : BridgeLane) (j : Journey) → 0 < n → flies l (coming n mark track j) ≡ false
-came_flies n mark track l j some =
+pub came_flies : (n : ℕ) (lost : Bool) (track : ℕ) (l : BridgeLane) (j : Journey) → 0 < n → flies l (coming n lost track j) ≡ false
+came_flies n lost track l j some =
     let not_yet : eqb n 0 ≡ false = grind (arith, nat_tests) in
     ap (λ (b : Bool). same_lane j.lane l && b) not_yet ∙ and_false (same_lane j.lane l)
 
-pub comes_first : (n : ℕ) (a : BridgeLane) (mark : Mark) (js : List Journey) → comes n a mark js ≡ change_first (flies a) (coming n mark (least_free (tracks_on a js))) js
-comes_first n a mark js = changed_first (flies a) (coming n mark (least_free (tracks_on a js))) js
+pub comes_first : (n : ℕ) (a : BridgeLane) (lost : Bool) (js : List Journey) → comes n a lost js ≡ change_first (flies a) (coming n lost (least_free (tracks_on a js))) js
+comes_first n a lost js = changed_first (flies a) (coming n lost (least_free (tracks_on a js))) js
 
 -- what stands of an item that comes so
-abbrev pub stood : Mark → Carried → List Carried
-stood mark item = cond (not (is_lost mark item) && (can_stand item && true)) (item ∷ []) []
+abbrev pub stood : Bool → Carried → List Carried
+stood lost item = cond (not (lost && can_stand item) && (can_stand item && true)) (item ∷ []) []
 
-came_stands : (n : ℕ) (mark : Mark) (track : ℕ) (l : BridgeLane) (j : Journey) → 0 < n → flies l j ≡ true → stands l (coming n mark track j) ≡ (not (is_lost mark j.carried) && (can_stand j.carried && true))
-came_stands n mark track l j some is =
-    let rest : Bool = not (is_lost mark j.carried) && (can_stand j.carried && true) in
+came_stands : (n : ℕ) (lost : Bool) (track : ℕ) (l : BridgeLane) (j : Journey) → 0 < n → flies l j ≡ true → stands l (coming n lost track j) ≡ (not (lost && can_stand j.carried) && (can_stand j.carried && true))
+came_stands n lost track l j some is =
+    let rest : Bool = not (lost && can_stand j.carried) && (can_stand j.carried && true) in
     let come : nat_lt 0 n ≡ true = grind (arith, nat_tests) in
     ap (λ (b : Bool). b && (nat_lt 0 n && rest)) (flies_lane l j is) ∙ ap (λ (b : Bool). b && rest) come
 
-pub sees_comes_here : (n : ℕ) (l : BridgeLane) (mark : Mark) (js : List Journey) (j : Journey) → 0 < n → InOrder (flies l) (stands l) js → find (flies l) js ≡ Some j
-    → ((sees l js).flight ≡ j.carried ∷ (sees l (comes n l mark js)).flight) × ((sees l (comes n l mark js)).standing ≡ (sees l js).standing ++ stood mark j.carried)
-sees_comes_here n l mark js j some order found =
+pub sees_comes_here : (n : ℕ) (l : BridgeLane) (lost : Bool) (js : List Journey) (j : Journey) → 0 < n → InOrder (flies l) (stands l) js → find (flies l) js ≡ Some j
+    → ((sees l js).flight ≡ j.carried ∷ (sees l (comes n l lost js)).flight) × ((sees l (comes n l lost js)).standing ≡ (sees l js).standing ++ stood lost j.carried)
+sees_comes_here n l lost js j some order found =
     let track : ℕ = least_free (tracks_on l js) in
-    let f : Journey → Journey = coming n mark track in
+    let f : Journey → Journey = coming n lost track in
     let is : flies l j ≡ true = find_passes (flies l) js j found in
-    let first = comes_first n l mark js in (
-      first-some item_of (flies l) f (λ k. came_flies n mark track l k some) js j found ∙ ap (λ xs. j.carried ∷ kept item_of (flies l) xs) (sym first),
+    let first = comes_first n l lost js in (
+      first-some item_of (flies l) f (λ k. came_flies n lost track l k some) js j found ∙ ap (λ xs. j.carried ∷ kept item_of (flies l) xs) (sym first),
       ap (λ xs. kept item_of (stands l) xs) first ∙ kept-come item_of (flies l) (stands l) f (flies_apart l) js order j found
-          ∙ ap (λ (b : Bool). kept item_of (stands l) js ++ cond b (j.carried ∷ []) []) (came_stands n mark track l j some is),
+          ∙ ap (λ (b : Bool). kept item_of (stands l) js ++ cond b (j.carried ∷ []) []) (came_stands n lost track l j some is),
     )
 
-pub sees_comes_other : (n : ℕ) (a l : BridgeLane) (mark : Mark) (js : List Journey) → same_lane a l ≡ false → sees l (comes n a mark js) ≡ sees l js
-sees_comes_other n a l mark js other =
-    let f : Journey → Journey = coming n mark (least_free (tracks_on a js)) in
+pub sees_comes_other : (n : ℕ) (a l : BridgeLane) (lost : Bool) (js : List Journey) → same_lane a l ≡ false → sees l (comes n a lost js) ≡ sees l js
+sees_comes_other n a l lost js other =
+    let f : Journey → Journey = coming n lost (least_free (tracks_on a js)) in
     let flying : Journey → Bool = λ j. eqb j.came 0 in
     let rest : Journey → Bool = λ j. nat_lt 0 j.came && (not j.marked && (can_stand j.carried && eqb j.left 0)) in
     let out : (j : Journey) → flies a j ≡ true → same_lane j.lane l ≡ false = λ j is. away j a l (flies_lane a j is) other in
-    ap (λ xs. sees l xs) (comes_first n a mark js)
+    ap (λ xs. sees l xs) (comes_first n a lost js)
     ∙ seen_same _ _ _ _
     (kept-change_same item_of (flies l) (flies a) f (λ j is. (ap (λ (b : Bool). b && flying (f j)) (out j is) ∙ sym (ap (λ (b : Bool). b && flying j) (out j is)), refl)) js)
     (kept-change_same item_of (stands l) (flies a) f (λ j is. (ap (λ (b : Bool). b && rest (f j)) (out j is) ∙ sym (ap (λ (b : Bool). b && rest j) (out j is)), refl)) js)

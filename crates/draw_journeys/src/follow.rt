@@ -2,23 +2,21 @@ ghost use Rattle.std.specs.Prelude.{◌≡◌, ◌<◌, ◌^◌, [], ◌∷◌, 
 ghost use Rattle.history_model.specs.declared.event.Event.{Event};
 ghost use Rattle.history_model.specs.Runs.{Run, Allowed, history_of};
 ghost use Rattle.history_model.specs.World.{world_of};
-ghost use Rattle.board_model.specs.Ways.{lane_back};
-ghost use Rattle.judge_state.specs.State.{lane_in};
+ghost use Rattle.history_model.specs.Moves.{moved_by};
+ghost use Rattle.history_model.specs.declared.rule.Rule.TheVariants.{Tagged};
 ghost use Rattle.judge_state.specs.Stands.{StandsFor, Stands};
 ghost use Rattle.draw_journeys.specs.Journeys.{ShowsRun};
-ghost use Rattle.draw_journeys.specs.Steps.{takes, next, journeys_in};
-ghost use Rattle.draw_journeys.specs.Kept.{IsListed, own_at, newest, sends_newest, did_at};
+ghost use Rattle.draw_journeys.specs.Steps.{next, journeys_in};
+ghost use Rattle.draw_journeys.specs.Kept.{IsListed};
 
-use crate::claimed::Claimed;
 use crate::travel::Travel;
-use board_model::{Board, Lane, Place};
 use board_tree::Tree;
-use draw_items::{Journey, lane_back};
-use history_model::{Carried, Event, Slot, Step};
+use draw_items::Journey;
+use history_model::{Event, Moved, Rule};
 use judge_state::Kept;
 use law_bound::runs_end;
-use machine_steps::{Presented, own_slot};
-use pci_command::{List, NoMemory, OpId};
+use machine_moves::moves_in;
+use pci_command::{List, NoMemory};
 use std::alloc::Global;
 
 /// The journeys of the items of a run, complete or not, in the order of sending; from its events,
@@ -66,117 +64,22 @@ fn happen(
     ensures listed { OnOk result
         (IsListed travel.new.journeys.items travel.new.under_way.items) }
 {
-    let board = tree.board();
-    match *event {
-        Event::Act {
-            bus,
-            by,
-            op,
-            step,
-            place,
-        } => {
-            let slot = own_at(kept, board, Presented { bus, by, op }, place);
-            step_on(kept, tree, event);
-            let claimed = did_at(kept, board, op, step, slot, place);
-            travel.claim(n, op, claimed)?;
-            travel.end(board, n, by, op, step)
-        }
-        Event::Arrive { lane, mark } => {
-            step_on(kept, tree, event);
-            travel.arrive(alloc, n, lane, mark)
-        }
-    }
+    let found = step_on(kept, tree, event);
+    let moves = moves_in(tree.board(), Rule::Tagged, event, found);
+    travel.follow(alloc, n, moves.as_slice())
 }
 
-/// The event happens to what is kept, where it is allowed next.
-fn step_on(kept: &mut Kept, tree: &Tree, event: &Event)
+/// The event happens to what is kept, where it is allowed next; and what it found on the lanes.
+fn step_on(kept: &mut Kept, tree: &Tree, event: &Event) -> Moved
     requires { Stands tree.now kept.old }
-    ensures { (h : List Event) → StandsFor tree.now h kept.old → Allowed tree.now h event.now →
-        StandsFor tree.now (event.now ∷ h) kept.new }
+    ensures stands { (h : List Event) → StandsFor tree.now h kept.old →
+        Allowed tree.now h event.now → StandsFor tree.now (event.now ∷ h) kept.new }
+    ensures moved { (h : List Event) → StandsFor tree.now h kept.old →
+        Allowed tree.now h event.now →
+        result ≡ moved_by Tagged tree.now (world_of tree.now h) event.now }
 {
     match kept.step(tree, event) {
-        Ok(()) | Err(_) => {}
-    }
-}
-
-/// The own slot of the operation, where a lane claims it.
-fn own_at(kept: &Kept, board: &Board, presented: Presented, place: Place) -> Option<Slot>
-    ensures { result ≡ own_at board.now (lane_in board.now kept.now.lanes) presented.bus
-        presented.by presented.op place }
-{
-    let Place::Lane(lane) = place else {
-        return None;
-    };
-    match kept.lanes_to(board, lane.bus) {
-        Some(lanes) => own_slot(board, presented, lanes.lane(lane.up).held()),
-        None => None,
-    }
-}
-
-/// What the step did where it was claimed, with the own slot before it.
-fn did_at(
-    kept: &Kept,
-    board: &Board,
-    op: OpId,
-    step: Step,
-    slot: Option<Slot>,
-    place: Place,
-) -> Claimed
-    ensures { result ≡ did_at (lane_in board.now kept.now.lanes) op step slot place }
-{
-    let Place::Lane(lane) = place else {
-        return Claimed::Nothing;
-    };
-    match step {
-        Step::Accept => Claimed::Sends {
-            lane,
-            item: Carried::Post { op },
-        },
-        Step::Latch => sends_newest(lane, newest(kept, board, lane)),
-        Step::Take(_) => takes(lane, slot),
-        Step::Land
-        | Step::Part(_)
-        | Step::Read(_)
-        | Step::Stall
-        | Step::MasterAbort
-        | Step::TargetAbort => Claimed::Nothing,
-    }
-}
-
-/// What was sent last on the lane and is in flight.
-fn newest(kept: &Kept, board: &Board, lane: Lane) -> Option<Carried>
-    ensures { result ≡ newest (lane_in board.now kept.now.lanes lane).flight }
-{
-    match kept.lanes_to(board, lane.bus) {
-        Some(lanes) => last_of(lanes.lane(lane.up).flight()),
-        None => None,
-    }
-}
-
-fn last_of(items: &[Carried]) -> Option<Carried>
-    ensures { result ≡ newest items.now }
-{
-    items.get(items.len().saturating_sub(1)).copied()
-}
-
-fn sends_newest(lane: Lane, item: Option<Carried>) -> Claimed
-    ensures { result ≡ sends_newest lane item }
-{
-    match item {
-        Some(item) => Claimed::Sends { lane, item },
-        None => Claimed::Nothing,
-    }
-}
-
-/// The completion of the slot is taken on the lane back.
-fn takes(lane: Lane, slot: Option<Slot>) -> Claimed
-    ensures { result ≡ takes (lane_back lane) slot }
-{
-    match slot {
-        Some(slot) => Claimed::Takes {
-            lane: lane_back(lane),
-            slot: slot.number,
-        },
-        None => Claimed::Nothing,
+        Ok(found) => found,
+        Err(_) => Moved::default(),
     }
 }

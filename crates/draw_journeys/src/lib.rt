@@ -2,7 +2,6 @@
 //! in them what it has in the machine, in the same order.
 #![tactic(auto)]
 
-mod claimed;
 mod follow;
 mod laws;
 mod tracks;

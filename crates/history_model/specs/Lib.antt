@@ -1,6 +1,7 @@
 pub mod WhyText
 pub mod Lanes
 pub mod World
+pub mod Moves
 pub mod Program
 pub mod Words
 pub mod Answers

@@ -1,5 +1,5 @@
 use crate::{By, Step};
-use board_model::Place;
+use board_model::{Lane, Place};
 use pci_command::{OpId, Outcome};
 
 /// What a lane carries.
@@ -27,6 +27,47 @@ pub enum Carried {
     Gone {
         slot: u8,
     },
+}
+
+/// What an event found on the lanes.
+#[derive(Clone, Copy, Debug, Default, PartialEq, Eq)]
+pub struct Moved {
+    /// The number of the slot that the act took, or that is held from now on, where a lane claimed
+    /// it.
+    pub slot: Option<u8>,
+    /// What stood, and ended by the act, on the lane that presented it; of an arrival what came.
+    pub item: Option<Carried>,
+}
+
+/// One thing that an event does to a lane.
+#[derive(Clone, Copy, Debug, PartialEq, Eq)]
+pub enum Move {
+    /// The item is in flight, after all others; whose it is (of a credit: of the write that left).
+    Sent { lane: Lane, op: OpId, item: Carried },
+    /// The oldest in flight is where the lane ends, and stands there.
+    Came { lane: Lane, item: Carried },
+    /// The oldest in flight is where the lane ends, and does not stand: a credit, a word, or what
+    /// the board discards or drops.
+    Lost { lane: Lane, item: Carried },
+    /// The oldest that stands there and is like it is gone.
+    Left { lane: Lane, item: Carried },
+    /// The slot is held where the lane begins.
+    Held { lane: Lane, slot: Slot },
+    /// The slot of this number is free there.
+    Freed { lane: Lane, number: u8 },
+    /// One more posted write is owed there.
+    Owed { lane: Lane },
+    /// One less is owed there.
+    Paid { lane: Lane },
+}
+
+/// What a table of moves has where nothing was put yet.
+impl Default for Move {
+    fn default() -> Move {
+        Move::Owed {
+            lane: Lane { bus: 0, up: false },
+        }
+    }
 }
 
 /// A slot held at the face where a delayed request was latched: its number, which local master

@@ -10,6 +10,6 @@ mod why;
 
 pub use board_model::{Lane, Place};
 pub use event::{By, Event, Mark, Stamped, Step};
-pub use item::{Answer, Carried, Cause, Slot};
+pub use item::{Answer, Carried, Cause, Move, Moved, Slot};
 pub use rule::Rule;
 pub use why::Why;

@@ -6,20 +6,20 @@ use std::marker::{Model, PhantomData};
 
 /// What a port took so far, in order.
 #[derive(Drop)]
-pub(crate) struct Told {
+pub(crate) struct TakenBytes {
     marker: PhantomData<u8>,
     pub ghost bytes: { List ℕ },
 }
 
-impl Model for Told {
+impl Model for TakenBytes {
     ghost also_owns = { λ _. ftrue };
 }
 
-impl Told {
-    pub(crate) fn new() -> Told
+impl TakenBytes {
+    pub(crate) fn new() -> TakenBytes
         ensures { result.bytes ≡ [] }
     {
-        Told {
+        TakenBytes {
             marker: PhantomData,
         }
     }

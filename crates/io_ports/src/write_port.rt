@@ -4,7 +4,7 @@ ghost use Rattle.std.specs.Io.KnownBytes.{WriteAppends};
 ghost use Rattle.io_ports.specs.Port.{TakesSome};
 
 use crate::counts::one_more;
-use crate::told::Told;
+use crate::told::TakenBytes;
 use crate::{Failed, Sink};
 use std::io::{ErrorKind, Write};
 use std::marker::Model;
@@ -14,7 +14,7 @@ use std::marker::Model;
 #[derive(Drop)]
 pub struct WritePort<W> {
     inner: W,
-    taken: Told,
+    taken: TakenBytes,
     faults: u64,
     reason: Option<ErrorKind>,
 }
@@ -35,7 +35,7 @@ impl<W> WritePort<W> {
     {
         WritePort {
             inner,
-            taken: Told::new(),
+            taken: TakenBytes::new(),
             faults: 0,
             reason: None,
         }

@@ -5,3 +5,4 @@ pub mod SumLemmas
 pub mod ReachLemmas
 pub mod RunningLemmas
 pub mod LeaveLemmas
+pub mod FoundLemmas

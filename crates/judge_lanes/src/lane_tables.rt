@@ -4,6 +4,7 @@ ghost use Rattle.std.specs.List.{find, list_any, position};
 ghost use Rattle.list_facts.specs.Lists.{less};
 ghost use Rattle.history_model.specs.Lanes.{is_of, is_done_for, has_number, asks_in};
 ghost use Rattle.history_model.specs.Lanes.{dones_in, lowest_free, lowest_free_from};
+ghost use Rattle.history_model.specs.Moves.{oldest};
 
 use arrayvec::ArrayVec;
 use history_model::{By, Carried, Slot};
@@ -185,6 +186,7 @@ impl LaneTables {
         requires dones { self.old.dones + 1 < 2 ^ 64 }
         ensures nothing { IfNone result (self.old.flight ≡ []) }
         ensures oldest { IfSome result (λ item. self.old.flight ≡ item ∷ drop 1 self.old.flight) }
+        ensures item { result ≡ oldest self.old.flight }
         ensures unchanged { IfNone result (self.new ≡ self.old) }
         ensures came_off { IfSome result (λ item.
             self.new ≡ came_off item (drop 1 self.old.flight) self.old) }

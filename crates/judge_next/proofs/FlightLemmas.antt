@@ -29,7 +29,7 @@ use Rattle.law_local.proofs.Laws.{moved_other}
 use Rattle.judge_state.specs.State.{KeptState, lane_from, lanes_in}
 use Rattle.judge_state.specs.Stands.{StandsFor}
 use Rattle.judge_state.proofs.LookLemmas as look
-use Rattle.judge_next.specs.declared.flights.Flights.{Flights}
+use Rattle.judge_next.specs.declared.flights.LaneFlights.{LaneFlights}
 use Rattle.judge_next.specs.Lines.{lanes_ending, lanes_below, all_lanes}
 use Rattle.judge_next.specs.Now.{arrival_now, arrival_on}
 use Rattle.judge_next.specs.Flights.{claiming, presenting, is_nil, are_still, is_still, looked, KnowsStill, KnowsFlights}
@@ -66,7 +66,7 @@ still_none : (board : Board) (k : KeptState) (lane : BridgeLane) → is_still bo
 still_none board k lane is = lane_still board lane lane.up (lanes_in board k.lanes lane.bus) is
 
 -- what is looked at first
-pub flights_known : (board : Board) (k : KeptState) (flights : Flights) → flights.lanes.items ≡ all_lanes board → length flights.still.items ≡ 256
+pub flights_known : (board : Board) (k : KeptState) (flights : LaneFlights) → flights.lanes.items ≡ all_lanes board → length flights.still.items ≡ 256
     → ((bus : ℕ) → bus < 256 → slice_get flights.still.items bus ≡ Some (is_still board k bus)) → KnowsFlights board k flights
 flights_known board k flights lanes all each = record {
   lanes = lanes;
@@ -159,7 +159,7 @@ still_stays board h e k later still stands stands_later known lane is =
     ]
 
 -- so what is known goes on
-pub flights_stay : (board : Board) (h : List Event) (e : Event) (k later : KeptState) (flights after : Flights) → StandsFor board h k → StandsFor board (e ∷ h) later
+pub flights_stay : (board : Board) (h : List Event) (e : Event) (k later : KeptState) (flights after : LaneFlights) → StandsFor board h k → StandsFor board (e ∷ h) later
     → KnowsFlights board k flights → after.lanes ≡ flights.lanes → after.still.items ≡ looked board later (presenting e) (looked board later (claiming e) flights.still.items)
     → KnowsFlights board later after
 flights_stay board h e k later flights after stands stands_later known lanes still = record {

@@ -9,7 +9,7 @@ use Rattle.history_model.specs.declared.event.Event.TheVariants.{Act, Arrive}
 use Rattle.history_model.specs.declared.item.Carried.{Carried}
 use Rattle.history_model.specs.Lanes.{Both}
 use Rattle.judge_state.specs.State.{KeptState, lanes_in, bus_at, bus_by}
-use Rattle.judge_next.specs.declared.flights.Flights.{Flights}
+use Rattle.judge_next.specs.declared.flights.LaneFlights.{LaneFlights}
 use Rattle.judge_next.specs.Lines.{all_lanes}
 use Rattle.judge_next.specs.Now.{arrival_now}
 
@@ -47,7 +47,7 @@ abbrev pub KnowsStill : Board → KeptState → List Bool → Type 0
 KnowsStill board k still = (lane : BridgeLane) → slice_get still lane.bus ≡ Some true → arrival_now board k lane ≡ None
 
 -- the lanes are those of the board, and what is known of its bridges is so
-pub record KnowsFlights (board : Board) (k : KeptState) (flights : Flights) : Type 0 where
+pub record KnowsFlights (board : Board) (k : KeptState) (flights : LaneFlights) : Type 0 where
   pub lanes : flights.lanes.items ≡ all_lanes board
   pub all_bridges : length flights.still.items ≡ 256
   pub still : KnowsStill board k flights.still.items

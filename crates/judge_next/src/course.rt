@@ -25,7 +25,7 @@ ghost use Rattle.judge_next.specs.Flights.{KnowsFlights};
 ghost use Rattle.judge_next.specs.Quiet.{AreFlags};
 
 use crate::acts::{act_of_lane, act_of_lanes, act_of_master, act_of_masters};
-use crate::flights::Flights;
+use crate::flights::LaneFlights;
 use crate::lines::Lines;
 use crate::quiet::Quiet;
 use board_model::{Board, Lane, board_fits};
@@ -43,7 +43,7 @@ pub struct Course {
     kept: Kept,
     lines: Vec<Lines>,
     quiet: Quiet,
-    flights: Flights,
+    flights: LaneFlights,
 }
 
 impl Course {
@@ -56,7 +56,7 @@ impl Course {
         board_fits(board);
         let lines = all_lines(alloc, board)?;
         let quiet = Quiet::none(alloc)?;
-        let flights = Flights::new(alloc, &kept, board, lines.as_slice())?;
+        let flights = LaneFlights::new(alloc, &kept, board, lines.as_slice())?;
         Ok(Course {
             kept,
             lines,
@@ -80,7 +80,7 @@ impl Course {
         ensures refused { OnErr result (self.new ≡ self.old) }
     {
         match self.kept.step(tree, event) {
-            Ok(()) => {
+            Ok(_) => {
                 let board = tree.board();
                 self.quiet.mark(bus_of(board, event), false);
                 self.flights.look_again(&self.kept, board, event);
@@ -192,7 +192,7 @@ fn next_now(
     kept: &Kept,
     board: &Board,
     sites: &Sites,
-    flights: &Flights,
+    flights: &LaneFlights,
     lines: &[Lines],
     quiet: &mut Quiet,
 ) -> Option<Event>

@@ -17,12 +17,12 @@ use std::alloc::Global;
 /// Where something may be in flight: all lanes of the board in the order in which the next arrival is
 /// looked for, and by bus which bridges are known to have nothing in flight.
 #[derive(Debug, Drop)]
-pub(crate) struct Flights {
+pub(crate) struct LaneFlights {
     lanes: Vec<Lane>,
     still: Vec<bool>,
 }
 
-impl Flights {
+impl LaneFlights {
     ghost use Rattle.history_model.specs.Next.{first_bus};
     ghost use Rattle.judge_next.specs.Now.{arrival_on};
     ghost use Rattle.judge_next.specs.Flights.{KnowsFlights};
@@ -33,13 +33,13 @@ impl Flights {
         kept: &Kept,
         board: &Board,
         lines: &[Lines],
-    ) -> Result<Flights, NoMemory>
+    ) -> Result<LaneFlights, NoMemory>
         requires { AreLines board.now lines.now }
         ensures { IfOk result (KnowsFlights board.now kept.now) }
     {
         let lanes = all_lanes(alloc, board, lines)?;
         let still = all_still(alloc, kept, board)?;
-        Ok(Flights { lanes, still })
+        Ok(LaneFlights { lanes, still })
     }
 
     /// The first arrival, by increasing bus and there by line.

@@ -24,7 +24,7 @@ use Rattle.judge_state.proofs.PlaceLemmas.{places_apart, changed_same, changed_o
 
 -- an event changes the lanes of no other bridge than those of the lane that claims and of the lane that presents
 
-abbrev elsewhere : Option ℕ → ℕ → Bool
+abbrev pub elsewhere : Option ℕ → ℕ → Bool
 elsewhere None bus = true
 elsewhere (Some first) bus = not (first == bus)
 
@@ -48,7 +48,7 @@ by_elsewhere board Master o step bus x other = refl
 by_elsewhere board (ByLane lane) o step bus x other = leaves_elsewhere lane o (lane_outcome board lane o step) bus x other
 
 -- what is kept after the event happened on one bridge
-happened : (rule : Rule) (board : Board) (e : Event) (first : Option ℕ) (lanes : List Both) (bus place : ℕ) (x : Both) → place_of board bus ≡ Some place → slice_get lanes place ≡ Some x →
+pub happened : (rule : Rule) (board : Board) (e : Event) (first : Option ℕ) (lanes : List Both) (bus place : ℕ) (x : Both) → place_of board bus ≡ Some place → slice_get lanes place ≡ Some x →
     slice_get (happens_on rule board e first lanes) place ≡ Some (if elsewhere first bus then x else lanes_after rule board e bus x)
 happened rule board e None lanes bus place x at is = is
 happened rule board e (Some first) lanes bus place x at is =

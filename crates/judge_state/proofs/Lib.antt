@@ -2,6 +2,7 @@ pub mod LookLemmas
 pub mod RoomLemmas
 pub mod PlaceLemmas
 pub mod GoLemmas
+pub mod FoundLemmas
 pub mod CountLemmas
 pub mod WordLemmas
 pub mod AnswerLemmas

@@ -1,4 +1,5 @@
 pub mod State
+pub mod Found
 pub mod Stands
 pub mod Rooms
 pub mod Words

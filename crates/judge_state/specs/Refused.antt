@@ -25,7 +25,3 @@ FirstRefused board events number why = FirstRefusedBy Tagged board events number
 -- the same of a number and a cause
 abbrev pub RefusesFirst : Board → List Event → ℕ × Why → Type 0
 RefusesFirst board events refused = FirstRefused board events refused.0 refused.1
-
--- and under a rule
-abbrev pub RefusesFirstBy : Rule → Board → List Event → ℕ × Why → Type 0
-RefusesFirstBy rule board events refused = FirstRefusedBy rule board events refused.0 refused.1

@@ -14,7 +14,7 @@ use crate::turns::KeptTurns;
 use crate::words::KeptWords;
 use board_model::{Board, Lane, Place, Target, Word, bridge_to, end_of, is_in_ranges, request_of};
 use board_tree::{Sites, Tree, claim_with};
-use history_model::{Answer, By, Event, Mark, Rule, Step, Why};
+use history_model::{Answer, By, Event, Mark, Moved, Rule, Step, Why};
 use judge_lanes::BridgeLanes;
 use law_bound::runs_end;
 use machine_steps::{
@@ -57,6 +57,10 @@ impl Kept {
     ghost use Rattle.board_model.specs.Valid.{IsValid};
     ghost use Rattle.history_model.specs.declared.event.Event.{Event};
     ghost use Rattle.history_model.specs.declared.rule.Rule.{Rule};
+    ghost use Rattle.history_model.specs.declared.rule.Rule.TheVariants.{Tagged};
+    ghost use Rattle.history_model.specs.World.{world_of, world_by};
+    ghost use Rattle.history_model.specs.Moves.{moved_by};
+    ghost use Rattle.judge_state.specs.Found.{found_next};
     ghost use Rattle.judge_state.specs.Stands.{StandsForBy, StandsFor, Stands, StandsFew};
     ghost use Rattle.judge_state.specs.State.{wants_now, lanes_in, turn_in};
     ghost use Rattle.judge_state.specs.State.{gone_in, tokens_in, mark_in};
@@ -96,11 +100,14 @@ impl Kept {
     }
 
     /// One more event, where it is allowed after those for which this stands: then this stands for
-    /// it too. If it is not, the cause, and this is as it was.
-    pub fn step(&mut self, tree: &Tree, event: &Event) -> Result<(), Why>
+    /// it too, and what it found on the lanes is told. If it is not, the cause, and this is as it
+    /// was.
+    pub fn step(&mut self, tree: &Tree, event: &Event) -> Result<Moved, Why>
         requires { Stands tree.now self.old }
         ensures verdict { (h : List Event) → StandsFor tree.now h self.old →
             Holds tree.now h event.now (cause_in result) }
+        ensures moved { (h : List Event) → StandsFor tree.now h self.old → IfOk result
+            (λ found. found ≡ moved_by Tagged tree.now (world_of tree.now h) event.now) }
         ensures goes_on { (h : List Event) → StandsFor tree.now h self.old →
             OnOk result (StandsFor tree.now (event.now ∷ h) self.new) }
         ensures refused { OnErr result (self.new ≡ self.old) }
@@ -108,12 +115,14 @@ impl Kept {
         self.step_kept(tree.board(), tree.sites(), event)
     }
 
-    fn step_kept(&mut self, board: &Board, sites: &Sites, event: &Event) -> Result<(), Why>
+    fn step_kept(&mut self, board: &Board, sites: &Sites, event: &Event) -> Result<Moved, Why>
         requires valid { IsValid board.now }
         requires sites { AreSites board.now sites.now }
         requires stands { Stands board.now self.old }
         ensures verdict { (h : List Event) → StandsFor board.now h self.old →
             Holds board.now h event.now (cause_in result) }
+        ensures moved { (h : List Event) → StandsFor board.now h self.old → IfOk result
+            (λ found. found ≡ moved_by Tagged board.now (world_of board.now h) event.now) }
         ensures goes_on { (h : List Event) → StandsFor board.now h self.old →
             OnOk result (StandsFor board.now (event.now ∷ h) self.new) }
         ensures refused { OnErr result (self.new ≡ self.old) }
@@ -124,12 +133,15 @@ impl Kept {
     }
 
     /// One more event, by the rule of the bridge, where it is allowed after those for which this
-    /// stands, of which there are few: then this stands for it too. If it is not, the cause, and
-    /// this is as it was.
-    pub fn step_by_rule(&mut self, tree: &Tree, event: &Event) -> Result<(), Why>
+    /// stands, of which there are few: then this stands for it too, and what it found on the lanes
+    /// is told. If it is not, the cause, and this is as it was.
+    pub fn step_by_rule(&mut self, tree: &Tree, event: &Event) -> Result<Moved, Why>
         requires { StandsFew tree.now self.old }
         ensures verdict { (rule : Rule) (h : List Event) → StandsForBy rule tree.now h self.old →
             HoldsBy rule tree.now h event.now (cause_in result) }
+        ensures moved { (rule : Rule) (h : List Event) → StandsForBy rule tree.now h self.old →
+            IfOk result
+            (λ found. found ≡ moved_by rule tree.now (world_by rule tree.now h) event.now) }
         ensures goes_on { (rule : Rule) (h : List Event) → StandsForBy rule tree.now h self.old →
             OnOk result (StandsForBy rule tree.now (event.now ∷ h) self.new) }
         ensures refused { OnErr result (self.new ≡ self.old) }
@@ -137,21 +149,21 @@ impl Kept {
         self.step_on(tree.board(), tree.sites(), event)
     }
 
-    fn step_on(&mut self, board: &Board, sites: &Sites, event: &Event) -> Result<(), Why>
+    fn step_on(&mut self, board: &Board, sites: &Sites, event: &Event) -> Result<Moved, Why>
         requires valid { IsValid board.now }
         requires sites { AreSites board.now sites.now }
         requires stands { StandsFew board.now self.old }
         ensures verdict { (rule : Rule) (h : List Event) → StandsForBy rule board.now h self.old →
             HoldsBy rule board.now h event.now (cause_in result) }
+        ensures moved { (rule : Rule) (h : List Event) → StandsForBy rule board.now h self.old →
+            IfOk result
+            (λ found. found ≡ moved_by rule board.now (world_by rule board.now h) event.now) }
         ensures goes_on { (rule : Rule) (h : List Event) → StandsForBy rule board.now h self.old →
             OnOk result (StandsForBy rule board.now (event.now ∷ h) self.new) }
         ensures refused { OnErr result (self.new ≡ self.old) }
     {
         match self.allows(board, sites, event) {
-            Ok(()) => {
-                self.happen(board, event);
-                Ok(())
-            }
+            Ok(()) => Ok(self.happen(board, event)),
             Err(why) => Err(why),
         }
     }
@@ -357,18 +369,20 @@ impl Kept {
         }
     }
 
-    /// One more event happens.
-    fn happen(&mut self, board: &Board, event: &Event)
+    /// One more event happens; and what it found on the lanes.
+    fn happen(&mut self, board: &Board, event: &Event) -> Moved
         requires formed { IsTrue (is_well_formed board.now) }
         requires rooms { HaveRooms board.now self.old.lanes }
         requires gone { GoneFits event.now self.old.gone }
-        ensures { self.new ≡ next_state board.now event.now self.old }
+        ensures state { self.new ≡ next_state board.now event.now self.old }
+        ensures found { result ≡ found_next self.old.rule board.now event.now self.old.lanes }
     {
         self.land(board, event);
         self.turns.happen(board, event);
-        self.lanes.happen(board, self.rule, event);
+        let found = self.lanes.happen(board, self.rule, event);
         self.tokens.happen(event);
         self.gone.happen(event);
+        found
     }
 
     /// What the event brings to words.

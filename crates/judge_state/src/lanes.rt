@@ -1,14 +1,15 @@
-ghost use Rattle.std.specs.Prelude.{◌≡◌, ◌==◌, Some};
+ghost use Rattle.std.specs.Prelude.{◌≡◌, ◌==◌, Some, slice_get};
 ghost use Rattle.list_facts.specs.Lists.{changed_at};
 ghost use Rattle.judge_state.specs.Rooms.{RoomAt};
 ghost use Rattle.judge_lanes.specs.Bridge.{lanes_after};
 ghost use Rattle.std.specs.Option.{option_copied};
 ghost use Rattle.std.specs.List.{position};
 ghost use Rattle.history_model.specs.Answers.{presents_by};
-ghost use Rattle.judge_state.specs.State.{place_of, bus_at, bus_by, other_than};
+ghost use Rattle.judge_state.specs.State.{place_of, lanes_at, bus_at, bus_by, other_than};
+ghost use Rattle.judge_state.specs.Found.{found_at};
 
 use board_model::{Board, Lane, Place};
-use history_model::{By, Event, Mark, Rule};
+use history_model::{By, Event, Mark, Moved, Rule};
 use judge_lanes::{BridgeLanes, mark_of_first};
 use machine_steps::may_go;
 use pci_command::{NoMemory, OpId};
@@ -34,6 +35,7 @@ impl KeptLanes {
     ghost use Rattle.std.specs.Prelude.{IfOk};
     ghost use Rattle.judge_state.specs.First.{lanes_at_first};
     ghost use Rattle.judge_state.specs.State.{lanes_in, lane_in, mark_in, lanes_next, happens_on};
+    ghost use Rattle.judge_state.specs.Found.{found_next, found_to};
     ghost use Rattle.judge_state.specs.Rooms.{HaveRooms, RoomOn};
 
     /// Nothing is on any lane.
@@ -76,41 +78,66 @@ impl KeptLanes {
         }
     }
 
-    /// One more event happens by the rule of the bridge to the lanes that it changes.
-    pub(crate) fn happen(&mut self, board: &Board, rule: Rule, event: &Event)
+    /// One more event happens by the rule of the bridge to the lanes that it changes; and what it
+    /// found on them.
+    pub(crate) fn happen(&mut self, board: &Board, rule: Rule, event: &Event) -> Moved
         requires { HaveRooms board.now self.old }
-        ensures { self.new ≡ lanes_next rule board.now event.now self.old }
+        ensures lanes { self.new ≡ lanes_next rule board.now event.now self.old }
+        ensures found { result ≡ found_next rule board.now event.now self.old }
     {
         match *event {
             Event::Act { by, place, .. } => {
                 let first = bus_at(place);
-                self.happen_on(board, rule, event, first);
-                self.happen_on(board, rule, event, other_than(first, bus_by(by)));
+                let claimed = self.happen_on(board, rule, event, first);
+                let ended = self.happen_on(board, rule, event, other_than(first, bus_by(by)));
+                Moved {
+                    slot: claimed.slot,
+                    item: claimed.item.or(ended.item),
+                }
             }
             Event::Arrive { lane, .. } => self.happen_on(board, rule, event, Some(lane.bus)),
         }
     }
 
     /// One more event happens to the lanes of the bridge to the bus, if there is one.
-    fn happen_on(&mut self, board: &Board, rule: Rule, event: &Event, bus: Option<u8>)
+    fn happen_on(&mut self, board: &Board, rule: Rule, event: &Event, bus: Option<u8>) -> Moved
         requires { RoomOn board.now self.old bus }
-        ensures { self.new ≡ happens_on rule board.now event.now bus self.old }
+        ensures lanes { self.new ≡ happens_on rule board.now event.now bus self.old }
+        ensures found { result ≡ found_to rule board.now event.now bus self.old }
     {
-        if let Some(bus) = bus {
-            self.happen_at(board, rule, event, bus, place_of(board, bus));
+        match bus {
+            Some(bus) => self.happen_at(board, rule, event, bus, place_of(board, bus)),
+            None => NOTHING,
         }
     }
 
     /// One more event happens to the lanes at this place, of the bridge to the bus.
-    fn happen_at(&mut self, board: &Board, rule: Rule, event: &Event, bus: u8, place: Option<usize>)
+    fn happen_at(
+        &mut self,
+        board: &Board,
+        rule: Rule,
+        event: &Event,
+        bus: u8,
+        place: Option<usize>,
+    ) -> Moved
         requires { RoomAt self.old place }
-        ensures { self.new ≡ changed_at (lanes_after rule board.now event.now bus) self.old place }
+        ensures lanes { self.new ≡
+            changed_at (lanes_after rule board.now event.now bus) self.old place }
+        ensures found { result ≡
+            found_at rule board.now event.now bus (lanes_at self.old place) }
     {
-        if let Some(place) = place {
-            happen_to(self.lanes.as_mut_slice(), board, rule, event, bus, place);
+        match place {
+            Some(place) => { happen_to(self.lanes.as_mut_slice(), board, rule, event, bus, place) }
+            None => NOTHING,
         }
     }
 }
+
+/// Where nothing moves.
+const NOTHING: Moved = Moved {
+    slot: None,
+    item: None,
+};
 
 fn happen_to(
     lanes: &mut [BridgeLanes],
@@ -119,13 +146,17 @@ fn happen_to(
     event: &Event,
     bus: u8,
     place: usize,
-)
+) -> Moved
     requires { RoomAt lanes.old (Some place) }
-    ensures { lanes.new ≡
+    ensures lanes { lanes.new ≡
         changed_at (lanes_after rule board.now event.now bus) lanes.old (Some place) }
+    ensures found { result ≡
+        found_at rule board.now event.now bus (slice_get lanes.old place) }
 {
     if place < lanes.len() {
-        lanes[place].happen(board, rule, event, bus);
+        lanes[place].happen(board, rule, event, bus)
+    } else {
+        NOTHING
     }
 }
 

@@ -12,4 +12,4 @@ mod turns;
 mod words;
 
 pub use kept::Kept;
-pub use taking::{first_refused, take_all, take_all_by_rule};
+pub use taking::{first_refused, take_all};

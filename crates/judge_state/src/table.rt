@@ -8,11 +8,11 @@ use std::marker::Model;
 
 /// Where the value of each word is.
 #[derive(Debug, Drop)]
-pub(crate) struct WordTable {
+pub(crate) struct KeptPlaces {
     places: HashMap<Word, usize>,
 }
 
-impl Model for WordTable {
+impl Model for KeptPlaces {
     ghost use Rattle.judge_state.specs.State.{WordPlaces};
 
     ghost Value = { WordPlaces };
@@ -20,16 +20,16 @@ impl Model for WordTable {
     ghost view = { λ k. k.places.entries };
 }
 
-impl WordTable {
+impl KeptPlaces {
     ghost use Rattle.judge_state.specs.Words.{place_at, same_word};
     ghost use Rattle.std.specs.Prelude.{OnOk, IfOk, if◌then◌else◌, []};
     ghost use Rattle.board_model.specs.declared.word.Word.{Word};
 
     /// No word.
-    pub(crate) fn new(alloc: Global) -> WordTable
+    pub(crate) fn new(alloc: Global) -> KeptPlaces
         ensures { result ≡ [] }
     {
-        WordTable {
+        KeptPlaces {
             places: HashMap::new(alloc),
         }
     }

@@ -1,9 +1,8 @@
 ghost use Rattle.std.specs.Prelude.{◌-◌, ◌<◌, ◌^◌};
 ghost use Rattle.std.specs.Prelude.{[], length, take, IfOk, IfNone, IfSome, MatchOption};
-ghost use Rattle.history_model.specs.declared.rule.Rule.{Rule};
 ghost use Rattle.history_model.specs.Runs.{Run, history_of};
-ghost use Rattle.judge_state.specs.Stands.{StandsFor, StandsForBy};
-ghost use Rattle.judge_state.specs.Refused.{RefusesFirst, RefusesFirstBy};
+ghost use Rattle.judge_state.specs.Stands.{StandsFor};
+ghost use Rattle.judge_state.specs.Refused.{RefusesFirst};
 
 use crate::Kept;
 use board_tree::Tree;
@@ -37,23 +36,8 @@ pub fn take_all(kept: &mut Kept, tree: &Tree, events: &[Event]) -> Option<(u32, 
     ensures stands { IfSome result (λ refused.
         StandsFor tree.now (history_of (take (refused.0 - 1) events.now)) kept.new) }
 {
-    take_all_by_rule(kept, tree, events)
-}
-
-/// The same by the rule of the bridge, for which what is kept stands.
-pub fn take_all_by_rule(kept: &mut Kept, tree: &Tree, events: &[Event]) -> Option<(u32, Why)>
-    requires few { length events.now < 2 ^ 32 }
-    requires start { (rule : Rule) × StandsForBy rule tree.now [] kept.old }
-    ensures run { (rule : Rule) → StandsForBy rule tree.now [] kept.old →
-        IfNone result (StandsForBy rule tree.now (history_of events.now) kept.new) }
-    ensures refused { (rule : Rule) → StandsForBy rule tree.now [] kept.old →
-        IfSome result (RefusesFirstBy rule tree.now events.now) }
-    ensures stands { (rule : Rule) → StandsForBy rule tree.now [] kept.old →
-        IfSome result (λ refused.
-        StandsForBy rule tree.now (history_of (take (refused.0 - 1) events.now)) kept.new) }
-{
     for (index, event) in events.iter().enumerate() {
-        if let Err(why) = kept.step_by_rule(tree, event) {
+        if let Err(why) = kept.step(tree, event) {
             return Some((index as u32 + 1, why));
         }
     }

@@ -5,7 +5,7 @@ ghost use Rattle.std.specs.Prelude.{slice_get};
 ghost use Rattle.machine_steps.specs.Counts.{or_zero};
 ghost use Rattle.list_facts.specs.Lists.{changed_at};
 
-use crate::table::WordTable;
+use crate::table::KeptPlaces;
 use board_model::{Board, Op, Place, Word, request_on};
 use board_tree::{Sites, route_by};
 use history_model::Step;
@@ -20,7 +20,7 @@ use std::marker::Model;
 #[derive(Debug, Drop)]
 pub(crate) struct KeptWords {
     /// Where each word is among the values.
-    places: WordTable,
+    places: KeptPlaces,
     values: Vec<u32>,
 }
 
@@ -49,7 +49,7 @@ impl KeptWords {
         ensures { IfOk result (WordsAtFirst board.now) }
     {
         let mut words = KeptWords {
-            places: WordTable::new(alloc),
+            places: KeptPlaces::new(alloc),
             values: Vec::new(alloc),
         };
         for master in board.masters.as_slice() {

@@ -39,10 +39,12 @@ ghost use Rattle.law_lanes.specs.Kinds.{RightKind};
 ghost use Rattle.law_lanes.specs.Owners.{Owners, TakesItsOwn};
 ghost use Rattle.board_model.specs.Ways.{lane_back};
 
+pub mod moves;
 pub mod order;
 pub mod progress;
 pub mod rules;
 
+pub use moves::moves_are_after;
 pub use order::{
     operations_end_once, owed_and_held, parts_wait_for_the_rest, posted_writes_are_masters,
     posts_are_on_their_way, posts_are_one, posts_keep_their_order, sent_is_received,

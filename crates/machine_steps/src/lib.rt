@@ -23,7 +23,7 @@ pub use counts::PhaseCounts;
 pub use endings::{ended_op, lane_outcome, master_outcome};
 pub use order::{completion_kind, may_go, request_kind};
 pub use presented::{Presented, is_write, own_slot, reads};
-pub use standing::{is_done_for, place_of_completion, place_of_request, standing_request};
+pub use standing::{is_done_for, is_of, place_of_completion, place_of_request};
 pub use turns::{first_turn, follows, is_on, stands_after, turn_after};
 pub use words::{
     brought_by, dword_address, left_of, mask_of, merge_at, opens_as, value_at, word_read,

@@ -90,7 +90,7 @@ pub fn is_done_for(item: Carried, number: u8) -> bool
 }
 
 /// Whether it is a posted write or a delayed request of the operation.
-fn is_of(item: Carried, of: OpId) -> bool
+pub fn is_of(item: Carried, of: OpId) -> bool
     ensures { result ≡ is_of of item }
 {
     match item {

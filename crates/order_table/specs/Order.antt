@@ -3,12 +3,8 @@
 use Rattle.std.specs.Prelude.{Bool, true, false}
 use Rattle.pci_command.specs.declared.command.Kind.{Kind}
 use Rattle.pci_command.specs.declared.command.Kind.TheVariants.{Pmw, Drr, Dwr, Drc, Dwc}
-
--- an entry of the table: the row must not, must be able to, or may but need not pass the column
-pub data Entry : Type 0 where
-  No : Entry
-  Yes : Entry
-  YesOrNo : Entry
+use Rattle.order_table.specs.declared.Entry.{Entry}
+use Rattle.order_table.specs.declared.Entry.TheVariants.{No, Yes, YesOrNo}
 
 -- a row of the table: its entry in each column, from left to right
 abbrev pub columns : Entry → Entry → Entry → Entry → Entry → Kind → Entry

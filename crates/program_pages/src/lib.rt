@@ -9,6 +9,7 @@ mod line_pages;
 mod lines;
 mod log_pages;
 mod machine_pages;
+mod order;
 mod page;
 mod shown;
 mod spot;

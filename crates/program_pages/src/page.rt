@@ -2,19 +2,10 @@ ghost use Rattle.std.specs.Prelude.{◌≡◌, IsTrue, IfSome, find};
 ghost use Rattle.std.specs.Option.{option_map};
 ghost use Rattle.program_pages.specs.Pages.{has_code};
 
+use crate::order::put_order;
 use crate::{DEVICE_PAGES, Fault, LINE_PAGES, LOG_PAGES, MACHINE_PAGES, TRACE_PAGES, TREE_PAGES};
 use history_model::Why;
 use std::fmt;
-
-/// Who may pass whom, both going the same way through one bridge: `table` of `order_table`.
-const ORDERING_TABLE: &str = "May a transaction of the row pass an older one of the column?\n\
-    \n\
-    \x20                               PMW     DRR     DWR     DRC     DWC\n\
-    PMW posted memory write         No      Yes     Yes     Yes     Yes\n\
-    DRR delayed read request        No      Yes/No  Yes/No  Yes/No  Yes/No\n\
-    DWR delayed write request       No      Yes/No  Yes/No  Yes/No  Yes/No\n\
-    DRC delayed read completion     No      Yes     Yes     Yes/No  Yes/No\n\
-    DWC delayed write completion    Yes/No  Yes     Yes     Yes/No  Yes/No\n";
 
 /// What one code means.
 #[derive(Clone, Copy, Debug)]
@@ -121,7 +112,8 @@ impl fmt::Display for Page {
             write!(f, "\nExample:\n\n{}", self.example)?;
         }
         if self.has_table() {
-            write!(f, "\n{ORDERING_TABLE}")?;
+            f.write_str("\n")?;
+            put_order(f)?;
         }
         Ok(())
     }

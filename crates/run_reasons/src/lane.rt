@@ -1,4 +1,5 @@
 //! Why a lane does not present an operation.
+use crate::past::Went;
 use crate::reason::Reason;
 use crate::scene::Scene;
 use crate::words::{kind_words, put_item, put_item_op, put_since};
@@ -169,13 +170,11 @@ fn put_not_there(
     standing: &[Carried],
 ) -> Result<(), NoMemory> {
     let word = LaneWord(lane);
-    let left = scene.past.left(lane, op);
-    let sent = scene.past.sent(lane, Carried::Post { op });
     scene.put_op(&mut reason.text, op)?;
-    match (left, sent) {
-        (Some(event), _) => write!(reason.text, " left {word} at event {event}")?,
-        (None, Some(_)) => write!(reason.text, " was dropped on {word}")?,
-        (None, None) => {
+    match scene.past.went(lane, op) {
+        Went::Left { event } => write!(reason.text, " left {word} at event {event}")?,
+        Went::Dropped => write!(reason.text, " was dropped on {word}")?,
+        Went::Nowhere => {
             write!(reason.text, " was not sent on {word}")?;
             reason.note(standing_note(scene, lane, standing)?)?;
         }

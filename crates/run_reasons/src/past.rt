@@ -1,72 +1,81 @@
-//! When things happened, before an event that is told of: looked for among the events before it,
-//! whose numbers count from 1.
-use board_model::{Board, Lane, Place};
-use history_model::{By, Carried, Event, Mark, Step};
-use machine_steps::lane_outcome;
-use pci_command::{NoMemory, OpId, same_op};
+//! What went over the lanes before an event that is told of: when each item was sent, came and
+//! left, by the moves of the events. Their numbers count from 1; where the arrivals among them are
+//! left away, each item comes by the event that sent it.
+use board_model::Lane;
+use history_model::{Carried, Move};
+use machine_moves::is_like;
+use pci_command::{NoMemory, OpId};
 use std::alloc::Global;
 
-/// The events before the one that is told of.
+/// An item on a lane, and the events by which it was sent, came and left; 0 where it did not.
 #[derive(Clone, Copy)]
-pub(crate) struct Past<'a> {
-    board: &'a Board,
-    events: &'a [Event],
-    /// Whether the arrivals among them are left away, and each item arrives right behind the event
-    /// that sent it.
-    is_filled: bool,
+struct Passage {
+    lane: Lane,
+    item: Carried,
+    sent: usize,
+    came: usize,
+    left: usize,
 }
 
-impl<'a> Past<'a> {
-    pub(crate) fn new(board: &'a Board, events: &'a [Event], is_filled: bool) -> Past<'a> {
+/// What became of an operation that is not on a lane.
+pub(crate) enum Went {
+    /// It was never sent there.
+    Nowhere,
+    /// It was dropped there.
+    Dropped,
+    /// It left by this event.
+    Left { event: usize },
+}
+
+/// All that went over the lanes.
+#[derive(Drop)]
+pub(crate) struct Past {
+    /// In the order of sending.
+    passages: Vec<Passage>,
+    /// The places of those that are in flight or stand, in that order.
+    under_way: Vec<usize>,
+}
+
+impl Past {
+    /// Nothing was sent.
+    pub(crate) fn new(alloc: Global) -> Past {
         Past {
-            board,
-            events,
-            is_filled,
+            passages: Vec::new(alloc),
+            under_way: Vec::new(alloc),
         }
     }
 
-    /// The event by which the item arrived on the lane; of an item that arrives right behind the
-    /// event that sent it, that event.
+    /// The moves of event number n.
+    pub(crate) fn note(&mut self, n: usize, moves: &[Move]) -> Result<(), NoMemory> {
+        for one in moves {
+            match *one {
+                Move::Sent { lane, item, .. } => self.send(n, lane, item)?,
+                Move::Came { lane, .. } => self.come(n, lane, false),
+                Move::Lost { lane, .. } => self.come(n, lane, true),
+                Move::Left { lane, item } => self.leave(n, lane, item),
+                Move::Held { .. } | Move::Freed { .. } | Move::Owed { .. } | Move::Paid { .. } => {}
+            }
+        }
+        Ok(())
+    }
+
+    /// The event by which the item arrived on the lane.
     pub(crate) fn since(&self, lane: Lane, item: Carried) -> Option<usize> {
-        let sent = self.sent(lane, item)?;
-        if self.is_filled {
-            return Some(sent);
+        match self.last(lane, item) {
+            Some(passage) if passage.came > 0 => Some(passage.came),
+            Some(_) | None => None,
         }
-        // What is sent first arrives first.
-        let mut place: usize = 0;
-        for event in self.events.iter().take(sent) {
-            if self.is_sent(lane, event) {
-                place = place.saturating_add(1);
-            }
-        }
-        self.arrival(lane, place)
     }
 
-    /// The event by which the item was sent on the lane.
-    pub(crate) fn sent(&self, lane: Lane, item: Carried) -> Option<usize> {
-        let mut found = None;
-        for (index, event) in self.events.iter().enumerate() {
-            if self.sends(lane, item, event) {
-                found = Some(index.saturating_add(1));
-            }
+    /// What became of the operation, which is not on the lane.
+    pub(crate) fn went(&self, lane: Lane, op: OpId) -> Went {
+        match self.last(lane, Carried::Post { op }) {
+            Some(passage) if passage.left > 0 => Went::Left {
+                event: passage.left,
+            },
+            Some(_) => Went::Dropped,
+            None => Went::Nowhere,
         }
-        found
-    }
-
-    /// The event by which the operation left the lane.
-    pub(crate) fn left(&self, lane: Lane, op: OpId) -> Option<usize> {
-        let mut found = None;
-        for (index, event) in self.events.iter().enumerate() {
-            if self.ends(lane, op, event) {
-                found = Some(index.saturating_add(1));
-            }
-        }
-        found
-    }
-
-    /// All of them.
-    pub(crate) fn events(&self) -> &'a [Event] {
-        self.events
     }
 
     /// The last so many posted writes that were accepted on the lane, the oldest first.
@@ -77,17 +86,12 @@ impl<'a> Past<'a> {
         count: u8,
     ) -> Result<Vec<OpId>, NoMemory> {
         let mut accepted = Vec::new(alloc);
-        for event in self.events.iter().rev() {
+        for passage in self.passages.as_slice().iter().rev() {
             if accepted.len() >= usize::from(count) {
                 break;
             }
-            if let Event::Act {
-                op,
-                step: Step::Accept,
-                place,
-                ..
-            } = *event
-                && is_into(place, lane)
+            if let Carried::Post { op } = passage.item
+                && passage.lane == lane
             {
                 accepted.push(op)?;
             }
@@ -96,73 +100,85 @@ impl<'a> Past<'a> {
         Ok(accepted)
     }
 
-    /// The arrival of this number, from 1 on, on the lane.
-    fn arrival(&self, lane: Lane, place: usize) -> Option<usize> {
-        let mut passed: usize = 0;
-        for (index, event) in self.events.iter().enumerate() {
-            if let Event::Arrive { lane: other, .. } = *event
-                && is_same(other, lane)
+    /// The lanes on which a delayed request of the operation was sent, the last first, each with
+    /// its event.
+    pub(crate) fn latched(&self, alloc: Global, op: OpId) -> Result<Vec<(usize, Lane)>, NoMemory> {
+        let mut latched = Vec::new(alloc);
+        for passage in self.passages.as_slice().iter().rev() {
+            if let Carried::Ask { op: other, .. } = passage.item
+                && other == op
             {
-                passed = passed.saturating_add(1);
-                if passed == place {
-                    return Some(index.saturating_add(1));
-                }
+                latched.push((passage.sent, passage.lane))?;
+            }
+        }
+        Ok(latched)
+    }
+
+    /// The last on the lane that is like the item.
+    fn last(&self, lane: Lane, item: Carried) -> Option<Passage> {
+        for passage in self.passages.as_slice().iter().rev() {
+            if passage.lane == lane && is_like(item, passage.item) {
+                return Some(*passage);
             }
         }
         None
     }
 
-    /// Whether the event sends the item on the lane.
-    fn sends(&self, lane: Lane, item: Carried, event: &Event) -> bool {
-        match item {
-            Carried::Post { op } | Carried::Ask { op, .. } => {
-                enters(lane, event) && is_act_of(op, event)
+    fn send(&mut self, n: usize, lane: Lane, item: Carried) -> Result<(), NoMemory> {
+        let place = self.passages.len();
+        self.passages.push(Passage {
+            lane,
+            item,
+            sent: n,
+            came: 0,
+            left: 0,
+        })?;
+        self.under_way.push(place)?;
+        Ok(())
+    }
+
+    /// The oldest in flight on the lane comes, and stands or is lost.
+    fn come(&mut self, n: usize, lane: Lane, is_lost: bool) {
+        if let Some(place) = self.first(lane, None)
+            && place < self.passages.len()
+        {
+            self.passages[place].came = n;
+            if is_lost {
+                self.under_way.retain(|other| *other != place);
             }
-            Carried::Done { op, .. } => self.ends(back_of(lane), op, event),
-            Carried::Room | Carried::Gone { .. } => false,
         }
     }
 
-    /// Whether the event sends anything on the lane: a request that is taken there, the answer of
-    /// what leaves the lane back, and the word that a request was dropped there.
-    fn is_sent(&self, lane: Lane, event: &Event) -> bool {
-        match *event {
-            Event::Act { op, .. } => { enters(lane, event) || self.ends(back_of(lane), op, event) }
-            Event::Arrive { lane: other, mark } => {
-                matches!(mark, Mark::Drop) && is_same(other, back_of(lane))
-            }
+    /// The oldest that stands where the lane ends and is like the item leaves.
+    fn leave(&mut self, n: usize, lane: Lane, item: Carried) {
+        if let Some(place) = self.first(lane, Some(item))
+            && place < self.passages.len()
+        {
+            self.passages[place].left = n;
+            self.under_way.retain(|other| *other != place);
         }
     }
 
-    /// Whether the operation leaves the lane by the event.
-    fn ends(&self, lane: Lane, of: OpId, event: &Event) -> bool {
-        match *event {
-            Event::Act {
-                by: By::Lane(by),
-                op,
-                step,
-                ..
-            } => {
-                is_same(by, lane)
-                    && same_op(op, of)
-                    && lane_outcome(self.board, lane, op, step).is_some()
+    /// The place of the oldest in flight on the lane; or of the oldest that stands where it ends
+    /// and is like the item.
+    fn first(&self, lane: Lane, like: Option<Carried>) -> Option<usize> {
+        for place in self.under_way.as_slice() {
+            if let Some(passage) = self.passages.as_slice().get(*place)
+                && passage.lane == lane
+                && is_at(*passage, like)
+            {
+                return Some(*place);
             }
-            Event::Act { .. } | Event::Arrive { .. } => false,
         }
+        None
     }
 }
 
-/// The lane into which a further bridge latched the operation by the event, as a lane presented it.
-pub(crate) fn latched_into(event: &Event, op: OpId) -> Option<Lane> {
-    match *event {
-        Event::Act {
-            by: By::Lane(_),
-            op: other,
-            step: Step::Latch,
-            place: Place::Lane(lane),
-            ..
-        } if same_op(other, op) => Some(lane),
-        Event::Act { .. } | Event::Arrive { .. } => None,
+/// Whether it is in flight; or whether it stands and is like the item.
+fn is_at(passage: Passage, like: Option<Carried>) -> bool {
+    match like {
+        Some(item) => passage.came > 0 && is_like(item, passage.item),
+        None => passage.came == 0,
     }
 }
 
@@ -171,33 +187,5 @@ pub(crate) fn back_of(lane: Lane) -> Lane {
     Lane {
         bus: lane.bus,
         up: !lane.up,
-    }
-}
-
-pub(crate) fn is_same(lane: Lane, other: Lane) -> bool {
-    lane.bus == other.bus && lane.up == other.up
-}
-
-/// Whether a bridge takes a request into the lane by the event.
-fn enters(lane: Lane, event: &Event) -> bool {
-    match *event {
-        Event::Act { step, place, .. } => {
-            matches!(step, Step::Accept | Step::Latch) && is_into(place, lane)
-        }
-        Event::Arrive { .. } => false,
-    }
-}
-
-fn is_into(place: Place, lane: Lane) -> bool {
-    match place {
-        Place::Lane(other) => is_same(other, lane),
-        Place::Target(_) | Place::Header(_) | Place::Nobody => false,
-    }
-}
-
-fn is_act_of(of: OpId, event: &Event) -> bool {
-    match *event {
-        Event::Act { op, .. } => same_op(op, of),
-        Event::Arrive { .. } => false,
     }
 }

@@ -2,7 +2,7 @@
 ghost use Rattle.std.specs.Prelude.{IsTrue};
 ghost use Rattle.board_model.specs.WellFormed.{is_well_formed};
 
-use crate::past::{back_of, is_same, latched_into};
+use crate::past::back_of;
 use crate::reason::Reason;
 use crate::scene::Scene;
 use crate::words::put_counted;
@@ -152,8 +152,8 @@ fn put_waited(
     slot: Slot,
     is_whole: bool,
 ) -> Result<(), NoMemory> {
-    match furthest(scene, slot.op) {
-        Some((event, further, held)) if !is_same(further, lane) => {
+    match furthest(scene, slot.op)? {
+        Some((event, further, held)) if further != lane => {
             if is_whole {
                 return put_slot(text, scene, further, held, true);
             }
@@ -165,18 +165,15 @@ fn put_waited(
     }
 }
 
-/// The last bridge that latched the operation as a lane presented it, and still holds a slot for
-/// it: the event by which it did, the lane, and the slot.
-fn furthest(scene: &Scene, op: OpId) -> Option<(usize, Lane, Slot)> {
-    let mut found = None;
-    for (index, event) in scene.past.events().iter().enumerate() {
-        if let Some(lane) = latched_into(event, op)
-            && let Some(slot) = slot_of(scene, lane, op)
-        {
-            found = Some((index.saturating_add(1), lane, slot));
+/// The last lane into which the operation was latched whose bridge still holds a slot for it: the
+/// event by which it was, the lane, and the slot.
+fn furthest(scene: &Scene, op: OpId) -> Result<Option<(usize, Lane, Slot)>, NoMemory> {
+    for (event, lane) in &scene.past.latched(scene.alloc, op)? {
+        if let Some(slot) = slot_of(scene, *lane, op) {
+            return Ok(Some((*event, *lane, slot)));
         }
     }
-    found
+    Ok(None)
 }
 
 /// The slot that is held for the operation where the lane begins.

@@ -13,7 +13,7 @@ pub(crate) struct Scene<'a> {
     pub(crate) alloc: Global,
     pub(crate) board: &'a Board,
     pub(crate) kept: &'a Kept,
-    pub(crate) past: Past<'a>,
+    pub(crate) past: &'a Past,
     /// The rule of the bridge by which events are judged.
     pub(crate) rule: Rule,
 }

@@ -1,4 +1,6 @@
-ghost use Rattle.std.specs.Prelude.{IsTrue};
+ghost use Rattle.std.specs.Prelude.{◌<◌, ◌^◌, [], length, IsTrue};
+ghost use Rattle.history_model.specs.declared.rule.Rule.{Rule as AnyRule};
+ghost use Rattle.judge_state.specs.Stands.{StandsForBy};
 ghost use Rattle.board_model.specs.WellFormed.{is_well_formed};
 
 use crate::cause::reason_of;
@@ -9,7 +11,8 @@ use crate::reason::Reason;
 use crate::scene::Scene;
 use board_tree::Tree;
 use history_model::{Event, Rule, Why};
-use judge_state::{Kept, take_all_by_rule};
+use judge_state::Kept;
+use machine_moves::moves_in;
 use pci_command::NoMemory;
 use std::alloc::Global;
 
@@ -38,15 +41,13 @@ pub fn reasons(
         return Ok(Findings::Left(Vec::new(alloc)));
     }
     let mut kept = Kept::by_rule(alloc, tree, rule)?;
-    let refused = match take_all_by_rule(&mut kept, tree, events) {
-        Some((number, why)) => Some(((number as usize).saturating_sub(1), why)),
-        None => None,
-    };
+    let mut past = Past::new(alloc);
+    let refused = take_all(&mut kept, &mut past, tree, rule, events)?;
     let scene = Scene {
         alloc,
         board: tree.board(),
         kept: &kept,
-        past: Past::new(tree.board(), before(events, refused), false),
+        past: &past,
         rule,
     };
     told_of(&scene, events, refused)
@@ -55,26 +56,40 @@ pub fn reasons(
 /// What is told of the acts among events, behind each of which all that it puts in flight arrives.
 pub fn reasons_filled(alloc: Global, tree: &Tree, events: &[Event]) -> Result<Findings, NoMemory> {
     let mut kept = Kept::new(alloc, tree)?;
-    let refused = fill_all(&mut kept, tree, events);
+    let mut past = Past::new(alloc);
+    let refused = fill_all(&mut kept, &mut past, tree, events)?;
     let scene = Scene {
         alloc,
         board: tree.board(),
         kept: &kept,
-        past: Past::new(tree.board(), before(events, refused), true),
+        past: &past,
         rule: Rule::Tagged,
     };
     told_of(&scene, events, refused)
 }
 
-/// The events before the one at this place, or all.
-fn before(events: &[Event], refused: Option<(usize, Why)>) -> &[Event] {
-    match refused {
-        Some((place, _)) => {
-            let (before, _) = events.split_at(place.min(events.len()));
-            before
+/// The events happen one after another to what is kept, and their moves are noted down, up to the
+/// first that is not allowed: its place, from 0, and why.
+fn take_all(
+    kept: &mut Kept,
+    past: &mut Past,
+    tree: &Tree,
+    rule: Rule,
+    events: &[Event],
+) -> Result<Option<(usize, Why)>, NoMemory>
+    requires few { length events.now < 2 ^ 32 }
+    requires start { (rule : AnyRule) × StandsForBy rule tree.now [] kept.old }
+{
+    for (place, event) in events.iter().enumerate() {
+        match kept.step_by_rule(tree, event) {
+            Ok(found) => {
+                let moves = moves_in(tree.board(), rule, event, found);
+                past.note(place.saturating_add(1), moves.as_slice())?;
+            }
+            Err(why) => return Ok(Some((place, why))),
         }
-        None => events,
     }
+    Ok(None)
 }
 
 fn told_of(

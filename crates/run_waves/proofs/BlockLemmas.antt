@@ -15,9 +15,9 @@ use Rattle.history_model.specs.declared.event.By.TheVariants.{Master, Lane as By
 use Rattle.history_model.specs.declared.event.Event.{Event}
 use Rattle.history_model.specs.declared.event.Event.TheVariants.{Act, Arrive}
 use Rattle.board_printer.specs.Lines.{Line}
-use Rattle.run_waves.specs.declared.blocks.Span.{Span}
+use Rattle.run_waves.specs.declared.blocks.BlockSpan.{BlockSpan}
 use Rattle.run_waves.specs.declared.scene.Scene.{Scene}
-use Rattle.run_waves.specs.declared.reading.Reading.{Reading}
+use Rattle.run_waves.specs.declared.reading.SignalReading.{SignalReading}
 use Rattle.run_waves.specs.declared.signal.BusPart.TheVariants as parts
 use Rattle.run_waves.specs.declared.signal.Signal.{Signal}
 use Rattle.run_waves.specs.declared.signal.Signal.TheVariants.{Bus, Lane, Index, Try, Waits, Stall}
@@ -47,27 +47,27 @@ both a b e f = ap (λ (x : Bool). x && b) e ∙ f
 -- Spans.
 
 -- a bus more
-pub wider : (span : Span) (bus other : ℕ) → is_in span other ≡ true → is_in (record { low = min span.low bus; high = max span.high bus }) other ≡ true
+pub wider : (span : BlockSpan) (bus other : ℕ) → is_in span other ≡ true → is_in (record { low = min span.low bus; high = max span.high bus }) other ≡ true
 wider span bus other inside =
     let low : span.low ≤ other = leb-true span.low other (both_left (leb span.low other) (leb other span.high) inside) in
     let high : other ≤ span.high = leb-true other span.high (both_right (leb span.low other) (leb other span.high) inside) in
     both (leb (min span.low bus) other) (leb other (max span.high bus)) (le-leb (min span.low bus) other (omega (arith, low))) (le-leb other (max span.high bus) (omega (arith, high)))
 
-pub now_in : (span : Span) (bus : ℕ) → is_in (record { low = min span.low bus; high = max span.high bus }) bus ≡ true
+pub now_in : (span : BlockSpan) (bus : ℕ) → is_in (record { low = min span.low bus; high = max span.high bus }) bus ≡ true
 now_in span bus = both (leb (min span.low bus) bus) (leb bus (max span.high bus)) (le-leb (min span.low bus) bus (omega arith)) (le-leb bus (max span.high bus) (omega arith))
 
 -- the signals from a place on up to another belong to buses in the span
-abbrev pub SpansTo : Board → List Signal → ℕ → ℕ → Span → Type 0
+abbrev pub SpansTo : Board → List Signal → ℕ → ℕ → BlockSpan → Type 0
 SpansTo board signals start end span = (k : ℕ) (signal : Signal) → start ≤ k → k < end → slice_get signals k ≡ Some signal → is_in span (home board signal) ≡ true
 
 -- a signal more
-pub span_more : (board : Board) (signals : List Signal) (start n bus low high : ℕ) (d : Signal) (span : Span) → n < length signals → bus ≡ home board (get_or signals n d) → low ≡ min span.low bus → high ≡ max span.high bus → SpansTo board signals start n span
+pub span_more : (board : Board) (signals : List Signal) (start n bus low high : ℕ) (d : Signal) (span : BlockSpan) → n < length signals → bus ≡ home board (get_or signals n d) → low ≡ min span.low bus → high ≡ max span.high bus → SpansTo board signals start n span
     → SpansTo board signals start (n + 1) (record { low = low; high = high })
 span_more board signals start n bus low high d span within bus_is low_is high_is before = λ k signal from less is.
-    let wide : Span = record { low = min span.low bus; high = max span.high bus } in
+    let wide : BlockSpan = record { low = min span.low bus; high = max span.high bus } in
     let same_span : wide ≡ record { low = low; high = high } = ap (λ (l : ℕ). record { low = l; high = max span.high bus }) (sym low_is) ∙ ap (λ (h : ℕ). record { low = low; high = h }) (sym high_is) in
     let P : Bool → Type 0 = λ b. eqb n k ≡ b → is_in wide (home board signal) ≡ true in
-    subst (λ (s : Span). is_in s (home board signal) ≡ true) same_span ((elim (eqb n k) as P [
+    subst (λ (s : BlockSpan). is_in s (home board signal) ≡ true) same_span ((elim (eqb n k) as P [
       | true ↦ λ same.
           let there : slice_get signals n ≡ Some (get_or signals n d) = slice_get-get_or signals n d within in
           let one : Some signal ≡ Some (get_or signals n d) = sym is ∙ ap (slice_get signals) (sym (eqb-true n k same)) ∙ there in
@@ -79,9 +79,9 @@ span_more board signals start n bus low high d span within bus_is low_is high_is
     ]) refl)
 
 -- each block has its span, by the program's own board, signals and spans
-pub spans_given : (given board : Board) (signals s1 : List Signal) (spans p1 : List Span) → given ≡ board → signals ≡ s1 → spans ≡ p1 → AreSpans given signals spans → AreSpans board s1 p1
+pub spans_given : (given board : Board) (signals s1 : List Signal) (spans p1 : List BlockSpan) → given ≡ board → signals ≡ s1 → spans ≡ p1 → AreSpans given signals spans → AreSpans board s1 p1
 spans_given given board signals s1 spans p1 same signals_are spans_are each =
-    subst (λ (l : List Span). AreSpans board s1 l) spans_are (subst (λ (l : List Signal). AreSpans board l spans) signals_are (subst (λ (b : Board). AreSpans b signals spans) same each))
+    subst (λ (l : List BlockSpan). AreSpans board s1 l) spans_are (subst (λ (l : List Signal). AreSpans board l spans) signals_are (subst (λ (b : Board). AreSpans b signals spans) same each))
 
 -- What is touched belongs to one of these buses.
 
@@ -93,51 +93,51 @@ apart P a b here gone =
       | false ↦ λ differ. refl
     ]) refl
 
-not_at : (span : Span) (bus : ℕ) (found : Option ℕ) → is_in span bus ≡ true → holds span found ≡ false → is_at bus found ≡ false
+not_at : (span : BlockSpan) (bus : ℕ) (found : Option ℕ) → is_in span bus ≡ true → holds span found ≡ false → is_at bus found ≡ false
 not_at span bus None inside off = refl
 not_at span bus (Some other) inside off = apart (is_in span) other bus inside off
 
-no_presenter : (board : Board) (span : Span) (by : By) (o : OpId) (bus : ℕ) → is_in span bus ≡ true → is_in span (presenter_bus board by o) ≡ false → presents_over by bus ≡ false
+no_presenter : (board : Board) (span : BlockSpan) (by : By) (o : OpId) (bus : ℕ) → is_in span bus ≡ true → is_in span (presenter_bus board by o) ≡ false → presents_over by bus ≡ false
 no_presenter board span Master o bus inside off = refl
 no_presenter board span (ByLane lane) o bus inside off = apart (is_in span) lane.bus bus inside off
 
-no_claimer : (board : Board) (span : Span) (place : Place) (bus : ℕ) → is_in span bus ≡ true → holds span (claimer_bus board place) ≡ false → claims_over place bus ≡ false
+no_claimer : (board : Board) (span : BlockSpan) (place : Place) (bus : ℕ) → is_in span bus ≡ true → holds span (claimer_bus board place) ≡ false → claims_over place bus ≡ false
 no_claimer board span (places.Target target) bus inside off = refl
 no_claimer board span (places.Header header) bus inside off = refl
 no_claimer board span (places.Lane lane) bus inside off = apart (is_in span) lane.bus bus inside off
 no_claimer board span places.Nobody bus inside off = refl
 
-no_target : (board : Board) (span : Span) (place : Place) (target : ℕ) → is_in span (bus_of_target board target) ≡ true → holds span (claimer_bus board place) ≡ false → claims_at place target ≡ false
+no_target : (board : Board) (span : BlockSpan) (place : Place) (target : ℕ) → is_in span (bus_of_target board target) ≡ true → holds span (claimer_bus board place) ≡ false → claims_at place target ≡ false
 no_target board span (places.Target place) target inside off = apart (λ (t : ℕ). is_in span (bus_of_target board t)) place target inside off
 no_target board span (places.Header header) target inside off = refl
 no_target board span (places.Lane lane) target inside off = refl
 no_target board span places.Nobody target inside off = refl
 
 -- an event of other buses
-abbrev Off : Board → Span → Event → Type 0
+abbrev Off : Board → BlockSpan → Event → Type 0
 Off board span e = (is_in span (mover_bus board e) ≡ false) × (holds span (taker_bus board e) ≡ false)
 
-lanes_off : (board : Board) (span : Span) (e : Event) (bus : ℕ) → is_in span bus ≡ true → Off board span e → moves_lanes bus e ≡ false
+lanes_off : (board : Board) (span : BlockSpan) (e : Event) (bus : ℕ) → is_in span bus ≡ true → Off board span e → moves_lanes bus e ≡ false
 lanes_off board span (Act on by o step place) bus inside off =
     neither (presents_over by bus) (claims_over place bus) (no_presenter board span by o bus inside off.0) (no_claimer board span place bus inside off.1)
 lanes_off board span (Arrive lane mark) bus inside off = apart (is_in span) lane.bus bus inside off.0
 
-master_off : (board : Board) (span : Span) (e : Event) (master : ℕ) → is_in span (bus_of_master board master) ≡ true → Off board span e → moves_master master e ≡ false
+master_off : (board : Board) (span : BlockSpan) (e : Event) (master : ℕ) → is_in span (bus_of_master board master) ≡ true → Off board span e → moves_master master e ≡ false
 master_off board span (Act on Master o step place) master inside off = apart (λ (m : ℕ). is_in span (bus_of_master board m)) o.master master inside off.0
 master_off board span (Act on (ByLane lane) o step place) master inside off = refl
 master_off board span (Arrive lane mark) master inside off = refl
 
-target_off : (board : Board) (span : Span) (e : Event) (target : ℕ) → is_in span (bus_of_target board target) ≡ true → Off board span e → moves_target target e ≡ false
+target_off : (board : Board) (span : BlockSpan) (e : Event) (target : ℕ) → is_in span (bus_of_target board target) ≡ true → Off board span e → moves_target target e ≡ false
 target_off board span (Act on by o step place) target inside off = no_target board span place target inside off.1
 target_off board span (Arrive lane mark) target inside off = refl
 
-happens_off : (board : Board) (span : Span) (test : Event → Bool) (to : Option Scene) → ((e : Event) → Off board span e → test e ≡ false)
+happens_off : (board : Board) (span : BlockSpan) (test : Event → Bool) (to : Option Scene) → ((e : Event) → Off board span e → test e ≡ false)
     → holds span (option_map (λ (scene : Scene). mover_bus board scene.event) to) ≡ false → holds span (option_and_then (λ (scene : Scene). taker_bus board scene.event) to) ≡ false
     → happens_so test (option_map (λ (scene : Scene). scene.event) to) ≡ false
 happens_off board span test None off mover taker = refl
 happens_off board span test (Some scene) off mover taker = off scene.event (mover, taker)
 
-span_off : (board : Board) (span : Span) (from to : Option Scene) (signal : Signal) → is_in span (home board signal) ≡ true → meets span (touch_of board from to) ≡ false → may_change (touch_of board from to) signal ≡ false
+span_off : (board : Board) (span : BlockSpan) (from to : Option Scene) (signal : Signal) → is_in span (home board signal) ≡ true → meets span (touch_of board from to) ≡ false → may_change (touch_of board from to) signal ≡ false
 span_off board span from to signal inside off =
     let t : Touch = touch_of board from to in
     let a : Bool = holds span t.from in
@@ -200,7 +200,7 @@ lines_end board before after signals n m end = at (leb (length signals) m) refl
         let same : n ≡ m = omega (arith, end, within) in
         ap (λ (k : ℕ). lines_from board before after k signals) same
 
-pub passed_lines : (board : Board) (before after : Moment) (from to : Option Scene) (signals : List Signal) (start : ℕ) (span : Span) → Follows before after → from ≡ scene_of board before → to ≡ scene_of board after
+pub passed_lines : (board : Board) (before after : Moment) (from to : Option Scene) (signals : List Signal) (start : ℕ) (span : BlockSpan) → Follows before after → from ≡ scene_of board before → to ≡ scene_of board after
     → Spans board signals start span → meets span (touch_of board from to) ≡ false → lines_from board before after start signals ≡ lines_from board before after (start + 32) signals
 passed_lines board before after from to signals start span follows from_is to_is spans off =
     no_lines board before after signals 32 start
@@ -209,16 +209,16 @@ passed_lines board before after from to signals start span follows from_is to_is
 -- Readings.
 
 -- those to come, where they are as they were
-pub reads_rest : (board : Board) (m : Moment) (signals : List Signal) (first shown : List Reading) (n : ℕ) → ReadsFrom board m signals first 0 → ((k : ℕ) → n ≤ k → slice_get shown k ≡ slice_get first k) → ReadsFrom board m signals shown n
+pub reads_rest : (board : Board) (m : Moment) (signals : List Signal) (first shown : List SignalReading) (n : ℕ) → ReadsFrom board m signals first 0 → ((k : ℕ) → n ≤ k → slice_get shown k ≡ slice_get first k) → ReadsFrom board m signals shown n
 reads_rest board m signals first shown n was rest = λ k signal reading from is got. was k signal reading (omega arith) is (sym (rest k from) ∙ got)
 
 -- behind the last signal
-pub reads_end : (board : Board) (m : Moment) (signals : List Signal) (shown : List Reading) (n end : ℕ) → min (length signals) end ≤ n → ReadsBelow board m signals shown n → ReadsBelow board m signals shown end
+pub reads_end : (board : Board) (m : Moment) (signals : List Signal) (shown : List SignalReading) (n end : ℕ) → min (length signals) end ≤ n → ReadsBelow board m signals shown n → ReadsBelow board m signals shown end
 reads_end board m signals shown n end all below = λ k signal reading less is got.
     let within : k < length signals = slice_get_within signals k signal is in
     below k signal reading (omega (arith, all, within, less)) is got
 
-pub passed_reads : (board : Board) (before after : Moment) (from to : Option Scene) (signals : List Signal) (shown : List Reading) (start : ℕ) (span : Span) → Follows before after → from ≡ scene_of board before → to ≡ scene_of board after
+pub passed_reads : (board : Board) (before after : Moment) (from to : Option Scene) (signals : List Signal) (shown : List SignalReading) (start : ℕ) (span : BlockSpan) → Follows before after → from ≡ scene_of board before → to ≡ scene_of board after
     → Spans board signals start span → meets span (touch_of board from to) ≡ false → ReadsFrom board before signals shown start → ReadsBelow board after signals shown start → ReadsBelow board after signals shown (start + 32)
 passed_reads board before after from to signals shown start span follows from_is to_is spans off was below = λ k signal reading less is got.
     let P : Bool → Type 0 = λ b. leb start k ≡ b → Reads board after signal reading in

@@ -11,7 +11,7 @@ use Rattle.law_lanes.proofs.Laws.{Run-before}
 use Rattle.judge_lanes.proofs.RoomLemmas.{history_more}
 use Rattle.judge_state.specs.State.{KeptState}
 use Rattle.run_waves.specs.declared.scene.Scene.{Scene}
-use Rattle.run_waves.specs.declared.reading.Reading.{Reading}
+use Rattle.run_waves.specs.declared.reading.SignalReading.{SignalReading}
 use Rattle.run_waves.specs.declared.signal.Signal.{Signal}
 use Rattle.run_waves.specs.Signals.{signals_of}
 use Rattle.run_waves.specs.Shown.{Moment, past, beginning, next, ending}
@@ -19,7 +19,7 @@ use Rattle.run_waves.specs.Scenes.{Follows, IsAt, ReadsFrom, scene_of}
 use Rattle.run_waves.specs.Dump.{time_line, head_lines, value_lines, change_lines, moment_lines, moments, first_lines, dump_lines}
 
 -- after so many events: what is to be written in all
-pub record SoFar (board : Board) (events : List Event) (signals : List Signal) (whole text : List ℕ) (shown : List Reading) (kept : KeptState) (waiting : List Bool) (scene : Option Scene) (i : ℕ) : Type 0 where
+pub record SoFar (board : Board) (events : List Event) (signals : List Signal) (whole text : List ℕ) (shown : List SignalReading) (kept : KeptState) (waiting : List Bool) (scene : Option Scene) (i : ℕ) : Type 0 where
   pub moment : Moment
   pub past_is : past moment ≡ history_of (take i events)
   pub at : IsAt board moment kept waiting scene
@@ -27,17 +27,17 @@ pub record SoFar (board : Board) (events : List Event) (signals : List Signal) (
   pub so_far : text ++ text_of (moments board (i + 1) moment (drop i events)) ≡ whole
 
 -- before the first event
-pub first_so_far : (board : Board) (events : List Event) (signals : List Signal) (text : List ℕ) (shown : List Reading) (kept : KeptState) (waiting : List Bool) (scene : Option Scene)
+pub first_so_far : (board : Board) (events : List Event) (signals : List Signal) (text : List ℕ) (shown : List SignalReading) (kept : KeptState) (waiting : List Bool) (scene : Option Scene)
     → IsAt board beginning kept waiting scene → ReadsFrom board beginning signals shown 0 → SoFar board events signals (text ++ text_of (moments board 1 beginning events)) text shown kept waiting scene 0
 first_so_far board events signals text shown kept waiting scene at reads = record { moment = beginning; past_is = refl; at = at; reads = reads; so_far = refl }
 
 -- what the signals read before the first event, by the program's own board, signals and readings
-pub first_reads : (given board : Board) (signals s1 : List Signal) (shown r1 : List Reading) (kept : KeptState) (waiting : List Bool) (scene : Option Scene) → given ≡ board → signals ≡ s1 → shown ≡ r1
+pub first_reads : (given board : Board) (signals s1 : List Signal) (shown r1 : List SignalReading) (kept : KeptState) (waiting : List Bool) (scene : Option Scene) → given ≡ board → signals ≡ s1 → shown ≡ r1
     → IsAt board beginning kept waiting scene → ((m : Moment) → IsAt given m kept waiting scene → ReadsFrom given m signals shown 0) → ReadsFrom board beginning s1 r1 0
 first_reads given board signals s1 shown r1 kept waiting scene same signals_are shown_are at reads =
     let there : IsAt given beginning kept waiting scene = subst (λ (b : Board). IsAt b beginning kept waiting scene) (sym same) at in
     let here : ReadsFrom board beginning signals shown 0 = subst (λ (b : Board). ReadsFrom b beginning signals shown 0) same (reads beginning there) in
-    subst (λ (l : List Reading). ReadsFrom board beginning s1 l 0) shown_are (subst (λ (l : List Signal). ReadsFrom board beginning l shown 0) signals_are here)
+    subst (λ (l : List SignalReading). ReadsFrom board beginning s1 l 0) shown_are (subst (λ (l : List Signal). ReadsFrom board beginning l shown 0) signals_are here)
 
 -- the text before the first event, by its parts
 first_text : (zero vars : Line) (values : List Line) (end : Line) (rest : List Line) (t1 t2 t3 t4 t5 : List ℕ) → t2 ≡ t1 ++ line_text zero → t3 ≡ t2 ++ line_text vars
@@ -81,7 +81,7 @@ allowed_next board events i d before run within is =
     subst (λ (h : List Event). Allowed board h e) (sym is) both.0
 
 -- one event more
-so_far_next : (board : Board) (events : List Event) (signals : List Signal) (whole text longer : List ℕ) (shown changed : List Reading) (kept after : KeptState) (waiting later : List Bool) (scene now : Option Scene) (i : ℕ) (d : Event)
+so_far_next : (board : Board) (events : List Event) (signals : List Signal) (whole text longer : List ℕ) (shown changed : List SignalReading) (kept after : KeptState) (waiting later : List Bool) (scene now : Option Scene) (i : ℕ) (d : Event)
     → (so : SoFar board events signals whole text shown kept waiting scene i) → i < length events → signals ≡ signals_of board
     → IsAt board (next so.moment (get_or events i d)) after later now → ReadsFrom board (next so.moment (get_or events i d)) signals changed 0
     → longer ≡ text ++ text_of (time_line (i + 1) ∷ change_lines board so.moment (next so.moment (get_or events i d)) 0 signals)
@@ -112,7 +112,7 @@ at_rest board m kept after waiting later scene now at kept_is waits_are none =
     subst (λ (k : KeptState). IsAt board (ending m) k later now) (sym kept_is) (subst (λ (l : List Bool). IsAt board (ending m) kept l now) (sym waits_are) there)
 
 -- all of it
-so_far_all : (board : Board) (events : List Event) (signals : List Signal) (whole text longer : List ℕ) (shown : List Reading) (kept : KeptState) (waiting : List Bool) (scene : Option Scene) (i : ℕ)
+so_far_all : (board : Board) (events : List Event) (signals : List Signal) (whole text longer : List ℕ) (shown : List SignalReading) (kept : KeptState) (waiting : List Bool) (scene : Option Scene) (i : ℕ)
     → (so : SoFar board events signals whole text shown kept waiting scene i) → length events ≡ i → signals ≡ signals_of board
     → longer ≡ text ++ text_of (time_line (i + 1) ∷ change_lines board so.moment (ending so.moment) 0 signals) → longer ≡ whole
 so_far_all board events signals whole text longer shown kept waiting scene i so all signals_are is =
@@ -124,15 +124,15 @@ so_far_all board events signals whole text longer shown kept waiting scene i so 
 -- the same, of what the program has of them: its board, its signals and its readings
 
 -- what a moment writes
-abbrev Writes : Board → List Signal → Option Scene → List Reading → KeptState → List Bool → Option Scene → ℕ → List ℕ → List ℕ → Type 0
+abbrev Writes : Board → List Signal → Option Scene → List SignalReading → KeptState → List Bool → Option Scene → ℕ → List ℕ → List ℕ → Type 0
 Writes board signals from shown kept waiting scene n text longer =
     (before after : Moment) → Follows before after → from ≡ scene_of board before → ReadsFrom board before signals shown 0 → IsAt board after kept waiting scene → longer ≡ text ++ text_of (time_line n ∷ change_lines board before after 0 signals)
 
-abbrev Tells : Board → List Signal → Option Scene → List Reading → List Reading → KeptState → List Bool → Option Scene → Type 0
+abbrev Tells : Board → List Signal → Option Scene → List SignalReading → List SignalReading → KeptState → List Bool → Option Scene → Type 0
 Tells board signals from shown changed kept waiting scene =
     (before after : Moment) → Follows before after → from ≡ scene_of board before → ReadsFrom board before signals shown 0 → IsAt board after kept waiting scene → ReadsFrom board after signals changed 0
 
-pub next_so_far : (given board : Board) (events : List Event) (signals s1 : List Signal) (whole text longer : List ℕ) (shown changed : List Reading) (kept after : KeptState) (waiting later : List Bool) (scene from now : Option Scene) (i : ℕ) (d : Event)
+pub next_so_far : (given board : Board) (events : List Event) (signals s1 : List Signal) (whole text longer : List ℕ) (shown changed : List SignalReading) (kept after : KeptState) (waiting later : List Bool) (scene from now : Option Scene) (i : ℕ) (d : Event)
     → (so : SoFar board events signals whole text shown kept waiting scene i) → i < length events → given ≡ board → s1 ≡ signals → signals ≡ signals_of given → from ≡ scene
     → IsAt board (next so.moment (get_or events i d)) after later now → Writes given s1 from shown after later now (i + 1) text longer → Tells given s1 from shown changed after later now
     → SoFar board events signals whole longer changed after later now (i + 1)
@@ -145,7 +145,7 @@ next_so_far given board events signals s1 whole text longer shown changed kept a
     let scene_is : from ≡ scene_of board so.moment = from_is ∙ so.at.scene_is in
     so_far_next board events signals whole text longer shown changed kept after waiting later scene now i d so within (signals_are ∙ ap signals_of same) at (r2 so.moment to refl scene_is so.reads at) (w2 so.moment to refl scene_is so.reads at)
 
-pub all_so_far : (given board : Board) (events : List Event) (signals s1 : List Signal) (whole text longer : List ℕ) (shown : List Reading) (kept after : KeptState) (waiting later : List Bool) (scene from now : Option Scene) (i n : ℕ)
+pub all_so_far : (given board : Board) (events : List Event) (signals s1 : List Signal) (whole text longer : List ℕ) (shown : List SignalReading) (kept after : KeptState) (waiting later : List Bool) (scene from now : Option Scene) (i n : ℕ)
     → (so : SoFar board events signals whole text shown kept waiting scene i) → length events ≡ i → n ≡ i + 1 → given ≡ board → s1 ≡ signals → signals ≡ signals_of given → from ≡ scene → after ≡ kept → later ≡ waiting → now ≡ None
     → Writes given s1 from shown after later now n text longer → longer ≡ whole
 all_so_far given board events signals s1 whole text longer shown kept after waiting later scene from now i n so all number same s1_is signals_are from_is kept_is waits_are none writes =

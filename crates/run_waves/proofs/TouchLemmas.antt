@@ -26,7 +26,7 @@ use Rattle.run_waves.specs.declared.signal.Signal.TheVariants.{Bus, Lane, Index,
 use Rattle.std.specs.Option.{option_map}
 use Rattle.history_model.specs.Local.{bus_of}
 use Rattle.run_waves.specs.declared.scene.Scene.{Scene}
-use Rattle.run_waves.specs.declared.reading.Reading.{Reading}
+use Rattle.run_waves.specs.declared.reading.SignalReading.{SignalReading}
 use Rattle.run_waves.specs.Shown.{Moment, past, events_by, Shown, Level, Number, is_event_on, idle_part, part_of, count_on, ops_of, index_of, try_of, waits, stalls_of, shown}
 use Rattle.run_waves.specs.Scenes.{Follows, Reads, scene_at, scene_of}
 use Rattle.run_waves.specs.Dump.{value_line, same_shown, same_level, is_of_event, change_line}
@@ -223,7 +223,7 @@ line_behind board before event k signal none =
     ap (written_by board event signal (shown board before signal)) (shown_stays board before event signal none) ∙ not_written board before event signal none in
     ap (λ (b : Bool). cond b (value_line k new ∷ []) []) off
 
-reads_behind : (board : Board) (before : Moment) (event : Option Event) (signal : Signal) (r : Reading) → Untouched board before event signal → Reads board before signal r → Reads board (behind before event) signal r
+reads_behind : (board : Board) (before : Moment) (event : Option Event) (signal : Signal) (r : SignalReading) → Untouched board before event signal → Reads board before signal r → Reads board (behind before event) signal r
 reads_behind board before event (Bus bus part) r none reads = reads
 reads_behind board before event (Lane lane count) r none reads = reads ∙ sym (shown_stays board before event (Lane lane count) none)
 reads_behind board before event (Index master) r none reads = reads ∙ sym (shown_stays board before event (Index master) none)
@@ -250,7 +250,7 @@ untouched_line board before after from to k signal follows from_is to_is none =
     let off : Untouched board before after.event signal = touched_by board before after from to signal follows from_is to_is none in
     ap (λ (m : Moment). change_line board before m k signal) (sym (moment_is before after follows)) ∙ line_behind board before after.event k signal off
 
-pub untouched_reads : (board : Board) (before after : Moment) (from to : Option Scene) (signal : Signal) (r : Reading) → Follows before after → from ≡ scene_of board before → to ≡ scene_of board after
+pub untouched_reads : (board : Board) (before after : Moment) (from to : Option Scene) (signal : Signal) (r : SignalReading) → Follows before after → from ≡ scene_of board before → to ≡ scene_of board after
     → may_change (touch_of board from to) signal ≡ false → Reads board before signal r → Reads board after signal r
 untouched_reads board before after from to signal r follows from_is to_is none reads =
     let off : Untouched board before after.event signal = touched_by board before after from to signal follows from_is to_is none in

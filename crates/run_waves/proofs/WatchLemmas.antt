@@ -13,6 +13,10 @@ use Rattle.history_model.specs.declared.event.By.TheVariants.{Master, Lane as By
 use Rattle.history_model.specs.declared.event.Event.{Event}
 use Rattle.history_model.specs.declared.event.Event.TheVariants.{Act, Arrive}
 use Rattle.history_model.specs.Lanes.{LaneState}
+use Rattle.history_model.specs.declared.item.Moved.{Moved}
+use Rattle.history_model.specs.declared.rule.Rule.TheVariants.{Tagged}
+use Rattle.history_model.specs.World.{world_of}
+use Rattle.history_model.specs.Moves.{moved_by}
 use Rattle.history_model.specs.Program.{turn_of}
 use Rattle.history_model.specs.Answers.{is_turn}
 use Rattle.history_model.specs.Runs.{Allowed}
@@ -20,12 +24,12 @@ use Rattle.judge_state.specs.State.{KeptState, flat, turn_in, lane_in}
 use Rattle.judge_state.specs.Stands.{StandsFor}
 use Rattle.judge_state.proofs.LookLemmas.{lane_now}
 use Rattle.run_waves.specs.declared.scene.Scene.{Scene}
-use Rattle.run_waves.specs.declared.reading.Reading.TheVariants as readings
+use Rattle.run_waves.specs.declared.reading.SignalReading.TheVariants as readings
 use Rattle.run_waves.specs.declared.signal.LaneCount.{LaneCount}
 use Rattle.run_waves.specs.declared.signal.Signal.{Signal}
 use Rattle.run_waves.specs.declared.signal.Signal.TheVariants.{Lane, Waits}
 use Rattle.run_waves.specs.Shown.{Moment, past, beginning, next, item_by, count_on, waits, Level, Number}
-use Rattle.run_waves.specs.Scenes.{IsAt, Reads, waits_next}
+use Rattle.run_waves.specs.Scenes.{IsAt, Reads, came_in, waits_next}
 use Rattle.run_waves.proofs.WaitLemmas.{own_waits, other_waits, lane_waits}
 
 -- an element that is replaced
@@ -89,6 +93,11 @@ length_next : (turns : List (Option OpId)) (e : Event) (waiting : List Bool) →
 length_next turns (Act on Master o step place) waiting = length-set waiting o.master (is_turn o (turn_in turns o.master))
 length_next turns (Act on (ByLane lane) o step place) waiting = refl
 length_next turns (Arrive lane mark) waiting = refl
+
+-- what arrives by an event is what it found in flight
+pub came_is : (board : Board) (h : List Event) (e : Event) (found : Moved) → found ≡ moved_by Tagged board (world_of board h) e → came_in e found ≡ item_by board h e
+came_is board h (Act on by o step place) found is = refl
+came_is board h (Arrive lane mark) found is = ap (λ (it : Moved). it.item) is
 
 -- after an event
 pub at_next : (board : Board) (m : Moment) (e : Event) (kept after : KeptState) (waiting later : List Bool) (scene now : Option Scene) → IsAt board m kept waiting scene → Allowed board (past m) e

@@ -4,7 +4,7 @@ use Rattle.std.specs.Prelude.{◌≡◌, ◌<◌, ◌≤◌, ℕ, ◌+◌, ◌*�
 use Rattle.std.specs.Option.{option_map_or}
 use Rattle.board_model.specs.declared.board.Board.{Board}
 use Rattle.board_printer.specs.Lines.{Line}
-use Rattle.run_waves.specs.declared.blocks.Span.{Span}
+use Rattle.run_waves.specs.declared.blocks.BlockSpan.{BlockSpan}
 use Rattle.run_waves.specs.declared.signal.Signal.{Signal}
 use Rattle.run_waves.specs.declared.touched.Touch.{Touch}
 use Rattle.run_waves.specs.Homes.{home}
@@ -12,15 +12,15 @@ use Rattle.run_waves.specs.Shown.{Moment}
 use Rattle.run_waves.specs.Dump.{change_lines}
 
 -- a bus lies in the span
-abbrev pub is_in : Span → ℕ → Bool
+abbrev pub is_in : BlockSpan → ℕ → Bool
 is_in span bus = nat_le span.low bus && nat_le bus span.high
 
 -- where there is one
-abbrev pub holds : Span → Option ℕ → Bool
+abbrev pub holds : BlockSpan → Option ℕ → Bool
 holds span bus = option_map_or (is_in span) bus false
 
 -- something is touched that belongs to a bus in the span
-abbrev pub meets : Span → Touch → Bool
+abbrev pub meets : BlockSpan → Touch → Bool
 meets span touch = holds span touch.from || (holds span touch.to || (holds span touch.mover || holds span touch.taker))
 
 -- what is written at a moment of the signals from this place on
@@ -28,12 +28,12 @@ abbrev pub lines_from : Board → Moment → Moment → ℕ → List Signal → 
 lines_from board from to k signals = change_lines board from to k (drop k signals)
 
 -- the signals of the block that begins at this place belong to buses in the span
-abbrev pub Spans : Board → List Signal → ℕ → Span → Type 0
+abbrev pub Spans : Board → List Signal → ℕ → BlockSpan → Type 0
 Spans board signals start span =
     (k : ℕ) (signal : Signal) → start ≤ k → k < start + 32 → slice_get signals k ≡ Some signal → is_in span (home board signal) ≡ true
 
 -- each block has its span
-pub record AreSpans (board : Board) (signals : List Signal) (spans : List Span) : Type 0 where
+pub record AreSpans (board : Board) (signals : List Signal) (spans : List BlockSpan) : Type 0 where
   pub all : length signals ≤ length spans * 32
   pub begins : (n : ℕ) → n < length spans → n * 32 < length signals
-  pub each : (n : ℕ) (span : Span) → slice_get spans n ≡ Some span → Spans board signals (n * 32) span
+  pub each : (n : ℕ) (span : BlockSpan) → slice_get spans n ≡ Some span → Spans board signals (n * 32) span

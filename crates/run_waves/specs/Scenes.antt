@@ -6,6 +6,8 @@ use Rattle.history_model.specs.declared.event.By.{By}
 use Rattle.history_model.specs.declared.event.By.TheVariants.{Master, Lane as ByLane}
 use Rattle.history_model.specs.declared.event.Event.{Event}
 use Rattle.history_model.specs.declared.event.Event.TheVariants.{Act, Arrive}
+use Rattle.history_model.specs.declared.item.Carried.{Carried}
+use Rattle.history_model.specs.declared.item.Moved.{Moved}
 use Rattle.history_model.specs.Local.{bus_of}
 use Rattle.history_model.specs.Program.{turn_of}
 use Rattle.board_printer.specs.Lines.{Line}
@@ -17,14 +19,19 @@ use Rattle.run_waves.specs.declared.signal.BusPart.{BusPart}
 use Rattle.run_waves.specs.declared.signal.Signal.{Signal}
 use Rattle.run_waves.specs.declared.signal.Signal.TheVariants.{Bus, Lane, Index, Try, Waits, Stall}
 use Rattle.run_waves.specs.declared.scene.Scene.{Scene}
-use Rattle.run_waves.specs.declared.reading.Reading.{Reading}
-use Rattle.run_waves.specs.declared.reading.Reading.TheVariants as readings
+use Rattle.run_waves.specs.declared.reading.SignalReading.{SignalReading}
+use Rattle.run_waves.specs.declared.reading.SignalReading.TheVariants as readings
 use Rattle.run_waves.specs.Shown.{Moment, past, Shown, Level, Number, Nothing, idle_part, event_part, item_by, waits, shown}
 use Rattle.run_waves.specs.Dump.{value_line, same_shown}
 
 -- what is shown of a scene
 abbrev pub scene_part : Board → BusPart → Scene → Shown
 scene_part board part scene = event_part board part scene.event scene.item
+
+-- what arrives by an event that found this
+abbrev pub came_in : Event → Moved → Option Carried
+came_in (Act on by o step place) found = None
+came_in (Arrive lane mark) found = found.item
 
 -- the scene of an event after these, where one happens
 abbrev pub scene_at : Board → List Event → Option Event → Option Scene
@@ -59,7 +66,7 @@ bus_change board k bus part from to =
     if is_scene_on board bus to then value_line k (shown_on board bus part to) ∷ [] else new_line k (shown_on board bus part from) (idle_part part)
 
 -- what a signal reads, as it is shown
-abbrev pub shown_of : Reading → Shown
+abbrev pub shown_of : SignalReading → Shown
 shown_of (readings.Level up) = Level up
 shown_of (readings.Number n) = Number n
 
@@ -69,7 +76,7 @@ value_in None = Nothing
 value_in (Some value) = Number value
 
 -- a signal of a lane, a master or a target reads what it shows; what a bus shows is in the scene
-abbrev pub Reads : Board → Moment → Signal → Reading → Type 0
+abbrev pub Reads : Board → Moment → Signal → SignalReading → Type 0
 Reads board m (Bus bus part) reading = Unit {0}
 Reads board m (Lane lane count) reading = shown_of reading ≡ shown board m (Lane lane count)
 Reads board m (Index master) reading = shown_of reading ≡ shown board m (Index master)
@@ -78,14 +85,14 @@ Reads board m (Waits master) reading = shown_of reading ≡ shown board m (Waits
 Reads board m (Stall target) reading = shown_of reading ≡ shown board m (Stall target)
 
 -- so do these signals from this place on
-abbrev pub ReadsFrom : Board → Moment → List Signal → List Reading → ℕ → Type 0
+abbrev pub ReadsFrom : Board → Moment → List Signal → List SignalReading → ℕ → Type 0
 ReadsFrom board m signals shown place =
-    (k : ℕ) (signal : Signal) (reading : Reading) → place ≤ k → slice_get signals k ≡ Some signal → slice_get shown k ≡ Some reading → Reads board m signal reading
+    (k : ℕ) (signal : Signal) (reading : SignalReading) → place ≤ k → slice_get signals k ≡ Some signal → slice_get shown k ≡ Some reading → Reads board m signal reading
 
 -- and those before it
-abbrev pub ReadsBelow : Board → Moment → List Signal → List Reading → ℕ → Type 0
+abbrev pub ReadsBelow : Board → Moment → List Signal → List SignalReading → ℕ → Type 0
 ReadsBelow board m signals shown place =
-    (k : ℕ) (signal : Signal) (reading : Reading) → k < place → slice_get signals k ≡ Some signal → slice_get shown k ≡ Some reading → Reads board m signal reading
+    (k : ℕ) (signal : Signal) (reading : SignalReading) → k < place → slice_get signals k ≡ Some signal → slice_get shown k ≡ Some reading → Reads board m signal reading
 
 -- after an event: a master that presented its turn waits, unless that ended, where these are the turns then
 abbrev pub waits_by : List (Option OpId) → By → OpId → List Bool → List Bool

@@ -19,6 +19,7 @@ use Rattle.history_model.specs.declared.item.Carried.{Carried}
 use Rattle.history_model.specs.declared.item.Carried.TheVariants.{Post, Ask, Done, Room, Gone}
 use Rattle.history_model.specs.Lanes.{LaneState, is_post}
 use Rattle.history_model.specs.World.{world_of}
+use Rattle.history_model.specs.Moves.{oldest}
 use Rattle.history_model.specs.Program.{turn_of}
 use Rattle.history_model.specs.Answers.{stalls_used}
 use Rattle.history_model.specs.Local.{bus_of}
@@ -66,11 +67,6 @@ pub data Shown : Type 0 where
   Nothing : Shown
 
 -- What happens on a bus.
-
--- the oldest item of those in flight
-abbrev pub first_of : List Carried → Option Carried
-first_of [] = None
-first_of (item ∷ rest) = Some item
 
 -- what an item is called
 abbrev pub item_word : Carried → List ℕ
@@ -149,7 +145,7 @@ event_part board parts.Value e item = value_shown e
 -- the item that arrives by an event after these: the oldest in flight on its lane; nothing arrives by a transaction
 abbrev pub item_by : Board → List Event → Event → Option Carried
 item_by board before (Act on by o step place) = None
-item_by board before (Arrive lane mark) = first_of (world_of board before lane).flight
+item_by board before (Arrive lane mark) = oldest (world_of board before lane).flight
 
 -- where nothing happens: empty texts, and no value
 abbrev pub idle_part : BusPart → Shown

@@ -14,12 +14,12 @@ pub(crate) const BLOCK: usize = 32;
 #[derive(Clone, Copy)]
 pub(crate) struct Blocks<'a> {
     pub(crate) signals: &'a [Signal],
-    pub(crate) spans: &'a [Span],
+    pub(crate) spans: &'a [BlockSpan],
 }
 
 /// The buses to which the signals of a block belong, from the lowest to the highest.
 #[derive(Clone, Copy)]
-pub(crate) struct Span {
+pub(crate) struct BlockSpan {
     low: u8,
     high: u8,
 }
@@ -29,7 +29,7 @@ pub(crate) fn spans_of(
     alloc: Global,
     board: &Board,
     signals: &[Signal],
-) -> Result<Vec<Span>, AllocError>
+) -> Result<Vec<BlockSpan>, AllocError>
     ensures { IfOk result (λ spans. AreSpans board.now signals.now spans.items) }
 {
     let mut spans = Vec::new(alloc);
@@ -40,17 +40,17 @@ pub(crate) fn spans_of(
 }
 
 /// That of the block that begins there.
-fn span_of(board: &Board, signals: &[Signal], start: usize) -> Span
+fn span_of(board: &Board, signals: &[Signal], start: usize) -> BlockSpan
     requires { start ≤ length signals.now }
     ensures { Spans board.now signals.now start result }
 {
-    let mut span = Span {
+    let mut span = BlockSpan {
         low: u8::MAX,
         high: 0,
     };
     for number in start..signals.len().min(start + BLOCK) {
         let bus = home(board, signals[number]);
-        span = Span {
+        span = BlockSpan {
             low: span.low.min(bus),
             high: span.high.max(bus),
         };
@@ -58,7 +58,7 @@ fn span_of(board: &Board, signals: &[Signal], start: usize) -> Span
     span
 }
 
-impl Span {
+impl BlockSpan {
     /// Whether something may be touched that belongs to a bus in it.
     pub(crate) fn meets(self, touch: &Touch) -> bool
         ensures { result ≡ meets self touch.now }

@@ -15,7 +15,7 @@ ghost use Rattle.run_waves.specs.Blocks.{AreSpans, lines_from};
 use crate::blocks::{BLOCK, Blocks, spans_of};
 use crate::head::print_head;
 use crate::lines::{is_idle, print_idle, print_part, print_reading};
-use crate::reading::{Reading, is_same};
+use crate::reading::{SignalReading, is_same};
 use crate::scene::Scene;
 use crate::signal::{BusPart, Signal};
 use crate::touched::Touch;
@@ -77,7 +77,11 @@ fn print_watched(
 }
 
 /// What all signals show before the first event.
-fn print_first(text: &mut String, signals: &[Signal], shown: &[Reading]) -> Result<(), AllocError>
+fn print_first(
+    text: &mut String,
+    signals: &[Signal],
+    shown: &[SignalReading],
+) -> Result<(), AllocError>
     requires { length signals.now ≡ length shown.now }
     ensures { (board : Board) (rest : List Line) → ReadsFrom board beginning signals.now shown.now 0
         → OnOk result (string_bytes text.new ++ text_of rest ≡ string_bytes text.old ++
@@ -96,7 +100,7 @@ fn print_moments(
     tree: &Tree,
     events: &[Event],
     blocks: &Blocks,
-    shown: &mut Vec<Reading>,
+    shown: &mut Vec<SignalReading>,
     watch: &mut Watch,
 ) -> Result<(), AllocError>
     requires run { Run tree.now (history_of events.now) }
@@ -112,19 +116,19 @@ fn print_moments(
     for (number, event) in events.iter().enumerate() {
         let from = watch.scene();
         watch.happen(tree, event);
-        let passed = Passed { from, watch };
+        let passed = MomentPassed { from, watch };
         print_moment(text, board, number + 1, blocks, shown, &passed)?;
     }
     let from = watch.scene();
     watch.rest();
-    let passed = Passed { from, watch };
+    let passed = MomentPassed { from, watch };
     print_moment(text, board, events.len() + 1, blocks, shown, &passed)?;
     Ok(())
 }
 
 /// A moment: what happened a moment before, and what is watched now.
 #[derive(Clone, Copy)]
-struct Passed<'a> {
+struct MomentPassed<'a> {
     from: Option<Scene>,
     watch: &'a Watch,
 }
@@ -142,7 +146,7 @@ fn readings_of(
     board: &Board,
     watch: &Watch,
     signals: &[Signal],
-) -> Result<Vec<Reading>, AllocError>
+) -> Result<Vec<SignalReading>, AllocError>
     ensures each { IfOk result (λ readings. length readings.items ≡ length signals.now) }
     ensures reads { IfOk result (λ readings. (m : Moment) →
         IsAt board.now m watch.now.kept watch.now.waits.items watch.now.scene →
@@ -156,7 +160,11 @@ fn readings_of(
 }
 
 /// Every signal, before the first event.
-fn print_values(text: &mut String, signals: &[Signal], shown: &[Reading]) -> Result<(), AllocError>
+fn print_values(
+    text: &mut String,
+    signals: &[Signal],
+    shown: &[SignalReading],
+) -> Result<(), AllocError>
     requires { length signals.now ≡ length shown.now }
     ensures { (board : Board) → ReadsFrom board beginning signals.now shown.now 0
         → OnOk result (string_bytes text.new ≡ string_bytes text.old ++
@@ -173,7 +181,7 @@ fn print_value(
     text: &mut String,
     number: usize,
     signal: Signal,
-    reading: Reading,
+    reading: SignalReading,
 ) -> Result<(), AllocError>
     ensures { (board : Board) → Reads board beginning signal reading
         → OnOk result (string_bytes text.new ≡ string_bytes text.old ++
@@ -191,8 +199,8 @@ fn print_moment(
     board: &Board,
     number: usize,
     blocks: &Blocks,
-    shown: &mut Vec<Reading>,
-    passed: &Passed,
+    shown: &mut Vec<SignalReading>,
+    passed: &MomentPassed,
 ) -> Result<(), AllocError>
     requires each { length blocks.now.signals.now ≡ length shown.old.items }
     requires spans { AreSpans board.now blocks.now.signals.now blocks.now.spans.now }
@@ -218,8 +226,8 @@ fn print_changes(
     text: &mut String,
     board: &Board,
     blocks: &Blocks,
-    shown: &mut [Reading],
-    passed: &Passed,
+    shown: &mut [SignalReading],
+    passed: &MomentPassed,
 ) -> Result<(), AllocError>
     requires each { length blocks.now.signals.now ≡ length shown.old }
     requires spans { AreSpans board.now blocks.now.signals.now blocks.now.spans.now }
@@ -249,8 +257,8 @@ fn print_block(
     text: &mut String,
     board: &Board,
     signals: &[Signal],
-    shown: &mut [Reading],
-    passed: &Passed,
+    shown: &mut [SignalReading],
+    passed: &MomentPassed,
     start: usize,
 ) -> Result<(), AllocError>
     requires each { length signals.now ≡ length shown.old }
@@ -288,9 +296,9 @@ fn print_change(
     board: &Board,
     number: usize,
     signal: Signal,
-    old: Reading,
-    passed: &Passed,
-) -> Result<Reading, AllocError>
+    old: SignalReading,
+    passed: &MomentPassed,
+) -> Result<SignalReading, AllocError>
     ensures text { (before after : Moment) → passed.now.from ≡ scene_of board.now before →
         Reads board.now before signal old
         → IsAt board.now after passed.now.watch.now.kept
@@ -314,8 +322,8 @@ fn print_change(
 fn print_new(
     text: &mut String,
     number: usize,
-    old: Reading,
-    reading: Reading,
+    old: SignalReading,
+    reading: SignalReading,
 ) -> Result<(), AllocError>
     ensures { OnOk result (string_bytes text.new
         ≡ string_bytes text.old ++ text_of (new_line number (shown_of old) (shown_of reading))) }
@@ -333,7 +341,7 @@ fn print_bus(
     number: usize,
     bus: u8,
     part: BusPart,
-    passed: &Passed,
+    passed: &MomentPassed,
 ) -> Result<(), AllocError>
     ensures { OnOk result (string_bytes text.new ≡ string_bytes text.old ++ text_of
         (bus_change board.now number bus part passed.now.from passed.now.watch.now.scene)) }

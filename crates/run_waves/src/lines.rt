@@ -10,7 +10,7 @@ ghost use Rattle.run_waves.specs.Scenes.{scene_part, shown_of, value_in};
 ghost use Rattle.run_waves.specs.Dump.{value_line, same_shown};
 
 use crate::code::Code;
-use crate::reading::Reading;
+use crate::reading::SignalReading;
 use crate::scene::Scene;
 use crate::signal::BusPart;
 use board_model::{Board, Place};
@@ -23,15 +23,15 @@ use trace_text::{ByWord, LaneWord, print_operation, step_word, target_name};
 pub(crate) fn print_reading(
     text: &mut String,
     number: usize,
-    reading: Reading,
+    reading: SignalReading,
 ) -> Result<(), AllocError>
     ensures { OnOk result (string_bytes text.new
         ≡ string_bytes text.old ++ line_text (value_line number (shown_of reading))) }
 {
     match reading {
-        Reading::Level(true) => writeln!(text, "1{}", Code(number)),
-        Reading::Level(false) => writeln!(text, "0{}", Code(number)),
-        Reading::Number(value) => writeln!(text, "b{value:b} {}", Code(number)),
+        SignalReading::Level(true) => writeln!(text, "1{}", Code(number)),
+        SignalReading::Level(false) => writeln!(text, "0{}", Code(number)),
+        SignalReading::Number(value) => writeln!(text, "b{value:b} {}", Code(number)),
     }
 }
 

@@ -4,7 +4,7 @@ ghost use Rattle.run_waves.specs.Dump.{same_shown};
 
 /// What a signal of a lane, a master or a target reads.
 #[derive(Clone, Copy, PartialEq, Eq)]
-pub(crate) enum Reading {
+pub(crate) enum SignalReading {
     /// It is up, or down.
     Level(bool),
     /// A number.
@@ -12,13 +12,13 @@ pub(crate) enum Reading {
 }
 
 /// Whether two readings are shown alike.
-pub(crate) fn is_same(a: Reading, b: Reading) -> bool
+pub(crate) fn is_same(a: SignalReading, b: SignalReading) -> bool
     ensures { result ≡ same_shown (shown_of a) (shown_of b) }
 {
     match (a, b) {
-        (Reading::Level(a), Reading::Level(b)) => a == b,
-        (Reading::Number(a), Reading::Number(b)) => a == b,
-        (Reading::Level(_), Reading::Number(_)) => false,
-        (Reading::Number(_), Reading::Level(_)) => false,
+        (SignalReading::Level(a), SignalReading::Level(b)) => a == b,
+        (SignalReading::Number(a), SignalReading::Number(b)) => a == b,
+        (SignalReading::Level(_), SignalReading::Number(_)) => false,
+        (SignalReading::Number(_), SignalReading::Level(_)) => false,
     }
 }

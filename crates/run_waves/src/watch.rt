@@ -1,13 +1,14 @@
 ghost use Rattle.std.specs.Prelude.{◌≡◌, ◌-◌, count_by};
 ghost use Rattle.history_model.specs.Lanes.{is_post};
 ghost use Rattle.run_waves.specs.Shown.{count_on, is_request, is_completion};
+ghost use Rattle.run_waves.specs.Scenes.{came_in};
 
-use crate::reading::Reading;
+use crate::reading::SignalReading;
 use crate::scene::Scene;
 use crate::signal::{LaneCount, Signal};
 use board_model::{Board, Lane};
 use board_tree::Tree;
-use history_model::{By, Carried, Event};
+use history_model::{By, Carried, Event, Moved};
 use judge_lanes::LaneTables;
 use judge_state::Kept;
 use pci_command::{NoMemory, same_op};
@@ -33,7 +34,7 @@ impl Watch {
     ghost use Rattle.std.specs.Prelude.{false, slice_get};
     ghost use Rattle.std.specs.Option.{option_map_or};
     ghost use Rattle.run_waves.specs.Shown.{Moment, past, beginning, next, ops_of, index_of};
-    ghost use Rattle.run_waves.specs.Shown.{try_of, stalls_of, item_by, first_of};
+    ghost use Rattle.run_waves.specs.Shown.{try_of, stalls_of};
     ghost use Rattle.run_waves.specs.Scenes.{IsAt, Reads, waits_next};
 
     /// Before the first event.
@@ -67,13 +68,14 @@ impl Watch {
             Allowed tree.now (past m) event.now
             → IsAt tree.now (next m event.now) self.new.kept self.new.waits.items self.new.scene }
     {
-        let item = self.arriving(tree.board(), event);
-        self.scene = Some(Scene {
-            event: *event,
-            item,
-        });
         match self.kept.step(tree, event) {
-            Ok(()) => self.note(event),
+            Ok(found) => {
+                self.scene = Some(Scene {
+                    event: *event,
+                    item: came_in(event, found),
+                });
+                self.note(event);
+            }
             Err(_) => {}
         }
     }
@@ -85,27 +87,6 @@ impl Watch {
         ensures scene { self.new.scene ≡ None }
     {
         self.scene = None;
-    }
-
-    /// What arrives by the event.
-    fn arriving(&self, board: &Board, event: &Event) -> Option<Carried>
-        ensures { (h : List Event) → StandsFor board.now h self.now.kept →
-            result ≡ item_by board.now h event.now }
-    {
-        match event {
-            Event::Act { .. } => None,
-            Event::Arrive { lane, .. } => self.first(board, *lane),
-        }
-    }
-
-    /// The oldest item in flight on a lane.
-    fn first(&self, board: &Board, lane: Lane) -> Option<Carried>
-        ensures { result ≡ first_of (lane_in board.now self.now.kept.lanes lane).flight }
-    {
-        match self.kept.lanes_to(board, lane.bus) {
-            Some(lanes) => lanes.lane(lane.up).flight().first().copied(),
-            None => None,
-        }
     }
 
     /// A master that presented its turn waits, unless that ended.
@@ -133,18 +114,18 @@ impl Watch {
     }
 
     /// What a signal of a lane, a master or a target reads now; of a bus 0.
-    pub(crate) fn reading(&self, board: &Board, signal: Signal) -> Reading
+    pub(crate) fn reading(&self, board: &Board, signal: Signal) -> SignalReading
         ensures { (m : Moment) →
             IsAt board.now m self.now.kept self.now.waits.items self.now.scene →
             Reads board.now m signal result }
     {
         match signal {
-            Signal::Bus { .. } => Reading::Number(0),
-            Signal::Lane { lane, count } => Reading::Number(self.count(board, lane, count)),
-            Signal::Index { master } => Reading::Number(self.index(board, master)),
-            Signal::Try { master } => Reading::Number(self.attempt(master)),
-            Signal::Waits { master } => Reading::Level(self.waits(master)),
-            Signal::Stall { target } => Reading::Number(self.stalls(board, target)),
+            Signal::Bus { .. } => SignalReading::Number(0),
+            Signal::Lane { lane, count } => SignalReading::Number(self.count(board, lane, count)),
+            Signal::Index { master } => SignalReading::Number(self.index(board, master)),
+            Signal::Try { master } => SignalReading::Number(self.attempt(master)),
+            Signal::Waits { master } => SignalReading::Level(self.waits(master)),
+            Signal::Stall { target } => SignalReading::Number(self.stalls(board, target)),
         }
     }
 
@@ -196,6 +177,16 @@ impl Watch {
             Some(lanes) => count_on(lanes.lane(lane.up), count),
             None => 0,
         }
+    }
+}
+
+/// What arrives by the event, which found this on the lanes.
+fn came_in(event: &Event, found: Moved) -> Option<Carried>
+    ensures { result ≡ came_in event.now found }
+{
+    match event {
+        Event::Act { .. } => None,
+        Event::Arrive { .. } => found.item,
     }
 }
 

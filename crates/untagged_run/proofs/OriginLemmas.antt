@@ -3,6 +3,7 @@ use Rattle.std.proofs.Common.{◌≡◌, ℕ, ◌+◌, Bool, true, false, ◌&&�
 use Rattle.std.specs.List.{find}
 use Rattle.std.specs.Option.{option_map}
 use Rattle.pci_command.specs.declared.op_id.OpId.{OpId}
+use Rattle.pci_command.specs.declared.op_id.Outcome.{Outcome}
 use Rattle.pci_command.specs.declared.request.Request.{Request}
 use Rattle.pci_command.specs.Command.{space_of}
 use Rattle.board_model.specs.declared.board.Board.{Board}
@@ -20,21 +21,31 @@ use Rattle.history_model.specs.declared.item.Carried.{Carried}
 use Rattle.history_model.specs.declared.item.Carried.TheVariants.{Post, Ask, Done, Room, Gone}
 use Rattle.history_model.specs.declared.item.Slot.{Slot}
 use Rattle.history_model.specs.declared.rule.Rule.TheVariants.{Untagged}
-use Rattle.history_model.specs.Lanes.{LaneState, is_of}
+use Rattle.history_model.specs.Lanes.{is_of}
 use Rattle.history_model.specs.World.{World, anyone, is_own, same_lane, lane_outcome, world_by}
+use Rattle.history_model.specs.Moves.{slot_at, item_moved, moved_by}
 use Rattle.history_model.specs.Knowledge.{Reading, reading_of, reading_or}
-use Rattle.judge_state.specs.State.{KeptState, lane_in}
-use Rattle.judge_state.specs.Stands.{StandsForBy}
-use Rattle.judge_state.proofs.LookLemmas.{lane_now_by}
 use Rattle.law_untagged.specs.Origins.{origin_in, source_of, asks_for, ends_item, origins_of, ending_reading}
 use Rattle.untagged_run.specs.declared.got.Got.{Got}
+use Rattle.untagged_run.specs.declared.made.EventMade.{EventMade}
+use Rattle.untagged_run.specs.declared.origins.Key.{Key}
 use Rattle.untagged_run.specs.Table.{Table, SameGot, KeepsOrigins, origin_at, key_of}
 use Rattle.untagged_run.specs.Gots.{slot_origin, source_now, asked_slot, made_now}
 use Rattle.untagged_run.specs.Course.{NotedAt, Noted}
 
-module _ (board : Board) (h : List Event) (k : KeptState) (table : Table) (event : ℕ) (stands : StandsForBy Untagged board h k) (keeps : KeepsOrigins board h table) (number : event ≡ length h + 1) where
+-- the slot whose delayed request ends is that of what is found
+asked_ends : (lane : BridgeLane) (o : OpId) (outcome : Option Outcome) (standing : List Carried)
+    → asked_slot lane (item_moved o outcome standing) ≡ (if ends_item outcome then asked_slot lane (find (is_of o) standing) else None)
+asked_ends lane o None standing = refl
+asked_ends lane o (Some outcome) standing = refl
+
+module _ (board : Board) (h : List Event) (table : Table) (event : ℕ) (keeps : KeepsOrigins board h table) (number : event ≡ length h + 1) where
+  abbrev world : World
+  world = world_by Untagged board h
+
   -- where an act has its value from
-  source_same : (on : ℕ) (o : OpId) (step : Step) (place : Place) → SameGot (source_now board table k.lanes event on o step place) (source_of board h (world_by Untagged board h) (origins_of board h) on o step place)
+  source_same : (on : ℕ) (o : OpId) (step : Step) (place : Place)
+      → SameGot (source_now board table event on o step place (slot_at board on anyone o step place world)) (source_of board h world (origins_of board h) on o step place)
   source_same on o Land place = tt
   source_same on o (Part phases) place = tt
   source_same on o (Read value) (Target target) =
@@ -49,20 +60,22 @@ module _ (board : Board) (h : List Event) (k : KeptState) (table : Table) (event
   source_same on o (Take outcome) (Target target) = tt
   source_same on o (Take outcome) (Header bus) = tt
   source_same on o (Take outcome) (Lane lane) =
-      let there : lane_in board k.lanes lane ≡ world_by Untagged board h lane = lane_now_by Untagged board h k lane stands in
-      let P : LaneState → Type 0 = λ l. SameGot (slot_origin table lane (find (is_own board on anyone o) l.held)) (origin_in (origins_of board h) lane (find (is_own board on anyone o) (world_by Untagged board h lane).held)) in
-      let Q : Option Slot → Type 0 = λ found. SameGot (slot_origin table lane found) (origin_in (origins_of board h) lane found) in
-      subst P (sym there) (elim (find (is_own board on anyone o) (world_by Untagged board h lane).held) as Q [ None ↦ tt | Some slot ↦ keeps lane slot.number ])
+      let Q : Option Slot → Type 0 = λ found. SameGot (slot_origin table lane (option_map (λ (slot : Slot). slot.number) found)) (origin_in (origins_of board h) lane found) in
+      elim (find (is_own board on anyone o) (world lane).held) as Q [ None ↦ tt | Some slot ↦ keeps lane slot.number ]
   source_same on o (Take outcome) Nobody = tt
   source_same on o Stall place = tt
   source_same on o MasterAbort place = tt
   source_same on o TargetAbort place = tt
 
+  -- what the event makes, by what it finds
+  abbrev makes : Event → EventMade
+  makes e = made_now board table event e (moved_by Untagged board world e)
+
   -- what a read got that the event ends
-  pub given_same : (e : Event) → SameGot (made_now board table k.lanes event e).given (ending_reading board h e)
+  pub given_same : (e : Event) → SameGot (makes e).given (ending_reading board h e)
   given_same (Act on Master o step place) =
-      let source : Option Got = source_now board table k.lanes event on o step place in
-      let reading : Option Reading = source_of board h (world_by Untagged board h) (origins_of board h) on o step place in
+      let source : Option Got = source_now board table event on o step place (slot_at board on anyone o step place world) in
+      let reading : Option Reading = source_of board h world (origins_of board h) on o step place in
       let P : Bool → Type 0 = λ b. SameGot (if b then source else None) (if b then reading else None) in
       elim (reads board o) as P [ true ↦ source_same on o step place | false ↦ tt ]
   given_same (Act on (ByLane lane) o step place) = tt
@@ -104,13 +117,12 @@ module _ (board : Board) (h : List Event) (k : KeptState) (table : Table) (event
       unless_false lane number new (same_lane from lane && false) reading (and_false (same_lane from lane) false refl) noted
 
   -- after an event its origin is noted down too
-  pub origins_went : (e : Event) (new : Table) → Noted (made_now board table k.lanes event e) table new → KeepsOrigins board (e ∷ h) new
+  pub origins_went : (e : Event) (new : Table) → Noted (makes e) table new → KeepsOrigins board (e ∷ h) new
   origins_went (Act on Master o step place) new noted = same_origins new noted
   origins_went (Act on (ByLane from) o step place) new noted = λ lane number.
-      let world : World = world_by Untagged board h in
-      let source : Option Got = source_now board table k.lanes event on o step place in
-      let there : lane_in board k.lanes from ≡ world from = lane_now_by Untagged board h k from stands in
-      let F : LaneState → Type 0 = λ l. NotedAt (if ends_item (lane_outcome board from o step) then asked_slot from (find (is_of o) l.standing) else None) source table new in
-      noted_same from lane number (ends_item (lane_outcome board from o step)) (find (is_of o) (world from).standing) source (source_of board h world (origins_of board h) on o step place) new
-      (source_same on o step place) (subst F there noted)
+      let outcome : Option Outcome = lane_outcome board from o step in
+      let standing : List Carried = (world from).standing in
+      let source : Option Got = source_now board table event on o step place (slot_at board on anyone o step place world) in
+      noted_same from lane number (ends_item outcome) (find (is_of o) standing) source (source_of board h world (origins_of board h) on o step place) new
+      (source_same on o step place) (subst (λ (slot : Option Key). NotedAt slot source table new) (asked_ends from o outcome standing) noted)
   origins_went (Arrive lane mark) new noted = same_origins new noted

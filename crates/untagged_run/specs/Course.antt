@@ -12,7 +12,7 @@ use Rattle.untagged_run.specs.declared.got.Got.{Got}
 use Rattle.untagged_run.specs.declared.got.Followed.{Followed}
 use Rattle.untagged_run.specs.declared.got.Followed.TheVariants.{NotRun, Run}
 use Rattle.untagged_run.specs.declared.origins.Key.{Key}
-use Rattle.untagged_run.specs.declared.made.Made.{Made}
+use Rattle.untagged_run.specs.declared.made.EventMade.{EventMade}
 use Rattle.untagged_run.specs.Flat.{flat}
 use Rattle.untagged_run.specs.Table.{Table, SameGot, KeepsOrigins, origin_at, same_key}
 
@@ -38,7 +38,7 @@ NotedAt None source old new = new ≡ old
 NotedAt (Some slot) source old new = (q : Key) → origin_at new q ≡ (if same_key slot q then source else origin_at old q)
 
 -- the same of what an event made
-abbrev pub Noted : Made → Table → Table → Type 0
+abbrev pub Noted : EventMade → Table → Table → Type 0
 Noted made old new = NotedAt made.slot made.source old new
 
 -- after one more event it stands for that one too, and one more is got

@@ -1,16 +1,13 @@
 -- What an act has its value from, by what is noted down.
-use Rattle.std.specs.Prelude.{ℕ, List, Option, Some, None, if◌then◌else◌}
-use Rattle.std.specs.List.{find}
+use Rattle.std.specs.Prelude.{ℕ, Option, Some, None, if◌then◌else◌}
 use Rattle.std.specs.Option.{option_map}
 use Rattle.pci_command.specs.declared.op_id.OpId.{OpId}
 use Rattle.pci_command.specs.declared.request.Request.{Request}
-use Rattle.pci_command.specs.Command.{space_of}
 use Rattle.board_model.specs.declared.board.Board.{Board}
 use Rattle.board_model.specs.declared.bridge.Lane.{Lane as BridgeLane}
 use Rattle.board_model.specs.declared.bridge.Place.{Place}
 use Rattle.board_model.specs.declared.bridge.Place.TheVariants.{Target, Header, Lane, Nobody}
 use Rattle.board_model.specs.Requests.{reads, request_of}
-use Rattle.board_model.specs.Ways.{address_in}
 use Rattle.history_model.specs.declared.event.By.{By}
 use Rattle.history_model.specs.declared.event.By.TheVariants.{Master, Lane as ByLane}
 use Rattle.history_model.specs.declared.event.Step.{Step}
@@ -19,16 +16,11 @@ use Rattle.history_model.specs.declared.event.Event.{Event}
 use Rattle.history_model.specs.declared.event.Event.TheVariants.{Act, Arrive}
 use Rattle.history_model.specs.declared.item.Carried.{Carried}
 use Rattle.history_model.specs.declared.item.Carried.TheVariants.{Post, Ask, Done, Room, Gone}
-use Rattle.history_model.specs.declared.item.Slot.{Slot}
-use Rattle.history_model.specs.Lanes.{Both, is_of}
-use Rattle.history_model.specs.World.{anyone, is_own, lane_outcome}
+use Rattle.history_model.specs.declared.item.Moved.{Moved}
 use Rattle.machine_steps.specs.Words.{word_at}
-use Rattle.judge_state.specs.State.{lane_in}
-use Rattle.board_model.specs.declared.word.Word.{Word}
-use Rattle.law_untagged.specs.Origins.{ends_item}
 use Rattle.untagged_run.specs.declared.got.Got.{Got}
 use Rattle.untagged_run.specs.declared.origins.Key.{Key}
-use Rattle.untagged_run.specs.declared.made.Made.{Made}
+use Rattle.untagged_run.specs.declared.made.EventMade.{EventMade}
 use Rattle.untagged_run.specs.Table.{Table, origin_at, key_of}
 
 -- a read at a target, by the event of that number
@@ -40,28 +32,28 @@ read_at board event on o (Lane lane) = None
 read_at board event on o Nobody = None
 
 -- the origin of the completion of a slot
-abbrev pub slot_origin : Table → BridgeLane → Option Slot → Option Got
+abbrev pub slot_origin : Table → BridgeLane → Option ℕ → Option Got
 slot_origin table lane None = None
-slot_origin table lane (Some slot) = origin_at table (key_of lane slot.number)
+slot_origin table lane (Some number) = origin_at table (key_of lane number)
 
--- of the completion that is taken at the place
-abbrev pub taken_at : Board → Table → List Both → ℕ → OpId → Place → Option Got
-taken_at board table lanes on o (Target target) = None
-taken_at board table lanes on o (Header bus) = None
-taken_at board table lanes on o (Lane lane) = slot_origin table lane (find (is_own board on anyone o) (lane_in board lanes lane).held)
-taken_at board table lanes on o Nobody = None
+-- of the completion that is taken at the place, by its slot
+abbrev pub taken_at : Table → Place → Option ℕ → Option Got
+taken_at table (Target target) slot = None
+taken_at table (Header bus) slot = None
+taken_at table (Lane lane) slot = slot_origin table lane slot
+taken_at table Nobody slot = None
 
 -- what an act has its value from: a reading at a target, or the origin of the completion that is taken
-abbrev pub source_now : Board → Table → List Both → ℕ → ℕ → OpId → Step → Place → Option Got
-source_now board table lanes event on o Land place = None
-source_now board table lanes event on o (Part phases) place = None
-source_now board table lanes event on o (Read value) place = read_at board event on o place
-source_now board table lanes event on o Accept place = None
-source_now board table lanes event on o Latch place = None
-source_now board table lanes event on o (Take outcome) place = taken_at board table lanes on o place
-source_now board table lanes event on o Stall place = None
-source_now board table lanes event on o MasterAbort place = None
-source_now board table lanes event on o TargetAbort place = None
+abbrev pub source_now : Board → Table → ℕ → ℕ → OpId → Step → Place → Option ℕ → Option Got
+source_now board table event on o Land place slot = None
+source_now board table event on o (Part phases) place slot = None
+source_now board table event on o (Read value) place slot = read_at board event on o place
+source_now board table event on o Accept place slot = None
+source_now board table event on o Latch place slot = None
+source_now board table event on o (Take outcome) place slot = taken_at table place slot
+source_now board table event on o Stall place slot = None
+source_now board table event on o MasterAbort place slot = None
+source_now board table event on o TargetAbort place slot = None
 
 -- the slot of a delayed request
 abbrev pub asked_slot : BridgeLane → Option Carried → Option Key
@@ -72,20 +64,19 @@ asked_slot lane (Some (Done op slot outcome)) = None
 asked_slot lane (Some Room) = None
 asked_slot lane (Some (Gone slot)) = None
 
--- the slot whose delayed request the act answers
-abbrev pub answered_now : Board → List Both → By → OpId → Step → Option Key
-answered_now board lanes Master o step = None
-answered_now board lanes (ByLane lane) o step =
-    if ends_item (lane_outcome board lane o step) then asked_slot lane (find (is_of o) (lane_in board lanes lane).standing) else None
+-- the slot whose delayed request the act answers, by what it ended
+abbrev pub answered_now : By → Option Carried → Option Key
+answered_now Master item = None
+answered_now (ByLane lane) item = asked_slot lane item
 
 -- what the read that the act ends at its master got
 abbrev pub given_now : Board → By → OpId → Option Got → Option Got
 given_now board Master o source = if reads board o then source else None
 given_now board (ByLane lane) o source = None
 
--- what an event makes of it: the slot and its origin, where it answers one, and what a read got that it ends
-abbrev pub made_now : Board → Table → List Both → ℕ → Event → Made
-made_now board table lanes event (Act on by o step place) =
-    let source = source_now board table lanes event on o step place in
-    record { slot = answered_now board lanes by o step; source = source; given = given_now board by o source }
-made_now board table lanes event (Arrive lane mark) = record { slot = None; source = None; given = None }
+-- what an event makes of it, by what it found: the slot and its origin, where it answers one, and what a read got that it ends
+abbrev pub made_now : Board → Table → ℕ → Event → Moved → EventMade
+made_now board table event (Act on by o step place) found =
+    let source = source_now board table event on o step place found.slot in
+    record { slot = answered_now by found.item; source = source; given = given_now board by o source }
+made_now board table event (Arrive lane mark) found = record { slot = None; source = None; given = None }

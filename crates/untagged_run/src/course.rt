@@ -1,27 +1,19 @@
 ghost use Rattle.std.specs.Prelude.{◌≡◌, ◌<◌, ◌+◌, ◌^◌, ◌∷◌, ◌++◌, []};
 ghost use Rattle.std.specs.Prelude.{List, IfOk, IfNone, OnOk, length, Some};
-ghost use Rattle.std.specs.List.{find};
-ghost use Rattle.pci_command.specs.declared.op_id.OpId.{OpId};
-ghost use Rattle.board_model.specs.declared.board.Board.{Board};
-ghost use Rattle.board_model.specs.declared.bridge.Lane.{Lane as BridgeLane};
 ghost use Rattle.history_model.specs.declared.event.Event.{Event};
 ghost use Rattle.history_model.specs.declared.rule.Rule.TheVariants.{Untagged};
-ghost use Rattle.history_model.specs.Lanes.{is_of};
-ghost use Rattle.history_model.specs.World.{anyone, is_own, lane_outcome};
 ghost use Rattle.machine_steps.specs.Verdicts.{HoldsBy};
-ghost use Rattle.judge_state.specs.State.{lane_in};
-ghost use Rattle.law_untagged.specs.Origins.{ends_item};
 ghost use Rattle.untagged_run.specs.Course.{Follows};
-ghost use Rattle.untagged_run.specs.Gots.{read_at, given_now, asked_slot};
+ghost use Rattle.untagged_run.specs.Gots.{read_at, given_now, answered_now};
 
 use crate::got::{Followed, Got};
-use crate::made::Made;
-use crate::origins::{Key, Origins, key_of};
-use board_model::{Board, Lane, Place, request_of};
+use crate::made::EventMade;
+use crate::origins::{Key, OriginTable, key_of};
+use board_model::{Board, Place, request_of};
 use board_tree::Tree;
-use history_model::{By, Carried, Event, Rule, Slot, Step, Why};
+use history_model::{By, Carried, Event, Moved, Rule, Step, Why};
 use judge_state::Kept;
-use machine_steps::{Presented, own_slot, reads, standing_request, word_read};
+use machine_steps::{reads, word_read};
 use pci_command::{NoMemory, OpId};
 use std::alloc::Global;
 use std::marker::Model;
@@ -33,19 +25,19 @@ pub fn follow(alloc: Global, tree: &Tree, events: &[Event]) -> Result<Followed, 
     requires { length events.now < 2 ^ 32 }
     ensures { IfOk result (Follows tree.now events.now) }
 {
-    let mut course = Course::new(alloc, tree)?;
+    let mut course = UntaggedCourse::new(alloc, tree)?;
     course.follow(alloc, tree, events)
 }
 
 /// What is kept of a run, and of what its reads got.
 #[derive(Drop)]
-struct Course {
+struct UntaggedCourse {
     kept: Kept,
-    origins: Origins,
+    origins: OriginTable,
     gots: Vec<Option<Got>>,
 }
 
-impl Model for Course {
+impl Model for UntaggedCourse {
     ghost use Rattle.untagged_run.specs.Course.{CourseState};
 
     ghost Value = { CourseState };
@@ -53,17 +45,17 @@ impl Model for Course {
     ghost view = { λ c. record { kept = c.kept; origins = c.origins; gots = c.gots.items } };
 }
 
-impl Course {
+impl UntaggedCourse {
     ghost use Rattle.untagged_run.specs.Course.{IsCourse, Courses, GoesOn, Noted};
-    ghost use Rattle.untagged_run.specs.Gots.{taken_at, source_now, answered_now, made_now};
+    ghost use Rattle.untagged_run.specs.Gots.{taken_at, made_now};
 
     /// Before the first event.
-    fn new(alloc: Global, tree: &Tree) -> Result<Course, NoMemory>
+    fn new(alloc: Global, tree: &Tree) -> Result<UntaggedCourse, NoMemory>
         ensures { IfOk result (IsCourse tree.now []) }
     {
-        Ok(Course {
+        Ok(UntaggedCourse {
             kept: Kept::by_rule(alloc, tree, Rule::Untagged)?,
-            origins: Origins::new(alloc),
+            origins: OriginTable::new(alloc),
             gots: Vec::new(alloc),
         })
     }
@@ -95,9 +87,9 @@ impl Course {
         ensures goes_on { IfOk result (λ verdict. (h : List Event) → IsCourse tree.now h self.old →
             IfNone verdict (GoesOn tree.now h event.now self.old self.new)) }
     {
-        let made = self.made(tree.board(), event);
         match self.kept.step_by_rule(tree, event) {
-            Ok(()) => {
+            Ok(found) => {
+                let made = self.made(tree.board(), event, found);
                 self.note(made)?;
                 Ok(None)
             }
@@ -106,7 +98,7 @@ impl Course {
     }
 
     /// What an event made is noted down.
-    fn note(&mut self, made: Made) -> Result<(), NoMemory>
+    fn note(&mut self, made: EventMade) -> Result<(), NoMemory>
         ensures kept { self.new.kept ≡ self.old.kept }
         ensures origins { OnOk result (Noted made self.old.origins self.new.origins) }
         ensures gots { OnOk result (self.new.gots ≡ self.old.gots ++ made.given ∷ []) }
@@ -118,11 +110,11 @@ impl Course {
         Ok(())
     }
 
-    /// What the event makes, if it is the next.
-    fn made(&self, board: &Board, event: &Event) -> Made
+    /// What the event makes, which found this on the lanes.
+    fn made(&self, board: &Board, event: &Event, found: Moved) -> EventMade
         requires { length self.now.gots + 1 < 2 ^ 32 }
-        ensures { result ≡ made_now board.now self.now.origins self.now.kept.lanes
-            (length self.now.gots + 1) event.now }
+        ensures { result ≡ made_now board.now self.now.origins (length self.now.gots + 1)
+            event.now found }
     {
         match *event {
             Event::Act {
@@ -132,14 +124,18 @@ impl Course {
                 step,
                 place,
             } => {
-                let source = self.source(board, bus, op, step, place);
-                Made {
-                    slot: self.answered(board, by, op, step),
+                let source = match step {
+                    Step::Read(_) => self.read(board, bus, op, place),
+                    Step::Take(_) => self.taken(place, found.slot),
+                    _ => None,
+                };
+                EventMade {
+                    slot: answered(by, found.item),
                     source,
                     given: given(board, by, op, source),
                 }
             }
-            Event::Arrive { .. } => Made {
+            Event::Arrive { .. } => EventMade {
                 slot: None,
                 source: None,
                 given: None,
@@ -147,86 +143,33 @@ impl Course {
         }
     }
 
-    /// Where an act has its value from: it is a read at a target, or takes what one made.
-    fn source(&self, board: &Board, bus: u8, op: OpId, step: Step, place: Place) -> Option<Got>
+    /// A read at a target, by the next event.
+    fn read(&self, board: &Board, bus: u8, op: OpId, place: Place) -> Option<Got>
         requires { length self.now.gots + 1 < 2 ^ 32 }
-        ensures { result ≡ source_now board.now self.now.origins self.now.kept.lanes
-            (length self.now.gots + 1) bus op step place }
+        ensures { result ≡ read_at board.now (length self.now.gots + 1) bus op place }
     {
-        match step {
-            Step::Read(_) => {
-                let event = self.gots.len() as u32 + 1;
-                read_at(board, event, bus, op, place)
-            }
-            Step::Take(_) => self.taken(board, bus, op, place),
-            Step::Land
-            | Step::Part(_)
-            | Step::Accept
-            | Step::Latch
-            | Step::Stall
-            | Step::MasterAbort
-            | Step::TargetAbort => None,
-        }
+        let event = self.gots.len() as u32 + 1;
+        read_at(board, event, bus, op, place)
     }
 
-    /// The origin of the completion that is taken at the place.
-    fn taken(&self, board: &Board, bus: u8, op: OpId, place: Place) -> Option<Got>
-        ensures { result ≡ taken_at board.now self.now.origins self.now.kept.lanes bus op place }
+    /// The origin of the completion that is taken at the place, by its slot.
+    fn taken(&self, place: Place, slot: Option<u8>) -> Option<Got>
+        ensures { result ≡ taken_at self.now.origins place slot }
     {
-        match place {
-            Place::Lane(lane) => match self.own(board, bus, op, lane) {
-                Some(slot) => self.origins.of(key_of(lane, slot.number)),
-                None => None,
-            },
-            Place::Target(_) | Place::Header(_) | Place::Nobody => None,
+        match (place, slot) {
+            (Place::Lane(lane), Some(number)) => self.origins.of(key_of(lane, number)),
+            _ => None,
         }
     }
+}
 
-    /// The slot of the lane for the request of the operation on the bus, whoever presented it.
-    fn own(&self, board: &Board, bus: u8, op: OpId, lane: Lane) -> Option<Slot>
-        ensures { result ≡ find (is_own board.now bus anyone op)
-            (lane_in board.now self.now.kept.lanes lane).held }
-    {
-        match self.kept.lanes_to(board, lane.bus) {
-            Some(lanes) => {
-                let by = Rule::Untagged.noted(By::Lane(lane));
-                own_slot(board, Presented { bus, by, op }, lanes.lane(lane.up).held())
-            }
-            None => None,
-        }
-    }
-
-    /// The slot whose delayed request the act answers, if it answers one.
-    fn answered(&self, board: &Board, by: By, op: OpId, step: Step) -> Option<Key>
-        ensures { result ≡ answered_now board.now self.now.kept.lanes by op step }
-    {
-        match by {
-            By::Lane(lane) if ends_item(step) => self.asked(board, lane, op),
-            By::Lane(_) | By::Master => None,
-        }
-    }
-
-    /// The slot of the oldest item of the operation that stands on the lane, if that is a delayed
-    /// request.
-    fn asked(&self, board: &Board, lane: Lane, op: OpId) -> Option<Key>
-        ensures { result ≡ asked_slot lane
-            (find (is_of op) (lane_in board.now self.now.kept.lanes lane).standing) }
-    {
-        match self.standing(board, lane, op) {
-            Some(Carried::Ask { slot, .. }) => Some(key_of(lane, slot)),
-            Some(Carried::Post { .. } | Carried::Done { .. } | Carried::Room | Carried::Gone { .. })
-            | None => None,
-        }
-    }
-
-    /// The oldest item of the operation that stands on the lane.
-    fn standing(&self, board: &Board, lane: Lane, op: OpId) -> Option<Carried>
-        ensures { result ≡ find (is_of op) (lane_in board.now self.now.kept.lanes lane).standing }
-    {
-        match self.kept.lanes_to(board, lane.bus) {
-            Some(lanes) => standing_request(lanes.lane(lane.up).standing(), op),
-            None => None,
-        }
+/// The slot whose delayed request the act answers, by what it ended.
+fn answered(by: By, item: Option<Carried>) -> Option<Key>
+    ensures { result ≡ answered_now by item }
+{
+    match (by, item) {
+        (By::Lane(lane), Some(Carried::Ask { slot, .. })) => Some(key_of(lane, slot)),
+        _ => None,
     }
 }
 
@@ -243,22 +186,6 @@ fn read_at(board: &Board, event: u32, bus: u8, op: OpId, place: Place) -> Option
             None => None,
         },
         Place::Header(_) | Place::Lane(_) | Place::Nobody => None,
-    }
-}
-
-/// Whether the step ends the item of a lane that presented it.
-fn ends_item(step: Step) -> bool
-    ensures { (board : Board) (lane : BridgeLane) (o : OpId) →
-        result ≡ ends_item (lane_outcome board lane o step) }
-{
-    match step {
-        Step::Land
-        | Step::Read(_)
-        | Step::Accept
-        | Step::Take(_)
-        | Step::MasterAbort
-        | Step::TargetAbort => true,
-        Step::Part(_) | Step::Latch | Step::Stall => false,
     }
 }
 

@@ -3,7 +3,7 @@ use crate::origins::Key;
 
 /// What an event makes of origins.
 #[derive(Clone, Copy)]
-pub(crate) struct Made {
+pub(crate) struct EventMade {
     /// The slot whose delayed request it answers, if it answers one.
     pub(crate) slot: Option<Key>,
     /// Where its value is from.

@@ -17,11 +17,11 @@ pub(crate) struct Key {
 
 /// Which reading made the completion of each slot.
 #[derive(Drop)]
-pub(crate) struct Origins {
+pub(crate) struct OriginTable {
     made: HashMap<Key, Option<Got>>,
 }
 
-impl Model for Origins {
+impl Model for OriginTable {
     ghost use Rattle.untagged_run.specs.Table.{Table};
 
     ghost Value = { Table };
@@ -29,16 +29,16 @@ impl Model for Origins {
     ghost view = { λ k. k.made.entries };
 }
 
-impl Origins {
+impl OriginTable {
     ghost use Rattle.std.specs.Prelude.{OnOk, if◌then◌else◌, []};
     ghost use Rattle.untagged_run.specs.Table.{origin_at, same_key};
     ghost use Rattle.untagged_run.specs.declared.origins.Key.{Key};
 
     /// None is noted down.
-    pub(crate) fn new(alloc: Global) -> Origins
+    pub(crate) fn new(alloc: Global) -> OriginTable
         ensures { result ≡ [] }
     {
-        Origins {
+        OriginTable {
             made: HashMap::new(alloc),
         }
     }

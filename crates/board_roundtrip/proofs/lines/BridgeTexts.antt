@@ -13,7 +13,7 @@ use Rattle.board_printer.specs.Boards.{is_short, is_short_window, is_short_bridg
 use Rattle.text_faults.specs.declared.board_line.LineFault.{LineFault}
 use Rattle.board_statements.specs.declared.statement.Statement.TheVariants.{NewBridge}
 use Rattle.board_statements.specs.Words.{has_mark, begins_with, decimal_of, fixed_of}
-use Rattle.board_statements.specs.Keywords.{form_of}
+use Rattle.board_statements.specs.Keywords.{line_form}
 use Rattle.board_statements.specs.Bridges.{window, depth, abort_mode, bridge_form}
 use Rattle.board_statements.specs.Statements.{behind_word, statement_form, statement_of}
 use Rattle.board_model.specs.Fits.{BridgeFits}
@@ -105,7 +105,7 @@ pref_may wide bridge may =
     first_may wide (is_short_window bridge.pref) (is_short_window bridge.io) others
 
 pub bridge_is_read : (wide : Bool) (bridge : Bridge) → BridgeFits bridge → is_well_formed_bridge bridge ≡ true → (wide || is_short_bridge bridge) ≡ true → statement_of wide (bridge_line bridge) ≡ Ok (NewBridge bridge)
-unfolding statement_of statement_form behind_word form_of bridge_form fixed_of
+unfolding statement_of statement_form behind_word line_form bridge_form fixed_of
 bridge_is_read wide bridge fits formed may =
     let it = Bridge-parts bridge formed in
     let of_bus = fits.bus in

@@ -23,7 +23,7 @@ use Rattle.board_printer.specs.Boards.{is_short, is_short_op, planned_line}
 use Rattle.text_faults.specs.declared.board_line.LineFault.{LineFault}
 use Rattle.board_statements.specs.declared.statement.Statement.TheVariants.{NewMaster, Does, Discards, Drops}
 use Rattle.board_statements.specs.Words.{fixed_of, name_of}
-use Rattle.board_statements.specs.Keywords.{form_of}
+use Rattle.board_statements.specs.Keywords.{line_form}
 use Rattle.board_statements.specs.Masters.{master_form, read_form, data_words, burst_words, burst_write_form, port_write_form, register_read_form, register_write_form, poll_form, planned_form, discard_form, drop_form, direction_of_word}
 use Rattle.board_statements.specs.Statements.{behind_word, statement_form, statement_of}
 use Rattle.board_model.specs.Fits.{MasterFits, OpFits, PhaseFits, PlannedFits}
@@ -32,14 +32,14 @@ use Rattle.board_roundtrip.proofs.lines.PartTexts.{word_is_read, address_is_read
 use Rattle.board_roundtrip.proofs.lines.TargetTexts.{port_is_read, port_hex_is_read}
 
 pub master_is_read : (wide : Bool) (master : Master) → MasterFits master → statement_of wide (master_line master) ≡ Ok (NewMaster master.name master.bus)
-unfolding statement_of statement_form behind_word form_of master_form fixed_of name_of
+unfolding statement_of statement_form behind_word line_form master_form fixed_of name_of
 master_is_read wide master fits =
     let bus = decimal_is_read 0 255 master.bus (omega arith) (let below = fits.bus in omega arith) (omega arith) in
     rw (fits.name, bus) refl
 
 read_is_read : (wide : Bool) (command : Command) (address : ℕ) → address < 2 ^ 64 → is_well_formed_read address (read_space command) ≡ true → (wide || is_short address) ≡ true
     → statement_of wide (op_line (Read command address)) ≡ Ok (Does (Read command address) false)
-unfolding statement_of statement_form behind_word form_of read_form
+unfolding statement_of statement_form behind_word line_form read_form
 read_is_read wide IoRead address fits formed may =
     let below : address < 2 ^ 32 = grind (arith, nat_tests) in
     rw (port_is_read address below) refl
@@ -80,7 +80,7 @@ burst_is_read (phase ∷ phases) fits formed some few =
 
 burst_write_is_read : (wide : Bool) (address : ℕ) (phases : List Phase) → address < 2 ^ 64 → AllByRecursion PhaseFits phases → list_all is_well_formed_phase phases ≡ true → 1 ≤ length phases → length phases ≤ 8 → (wide || is_short address) ≡ true
     → (statement_of wide (write_line MemWrite address phases) ≡ Ok (Does (Write MemWrite address phases) false)) × (statement_of wide (write_line MemWriteInvalidate address phases) ≡ Ok (Does (Write MemWriteInvalidate address phases) false))
-unfolding statement_of statement_form behind_word form_of burst_write_form
+unfolding statement_of statement_form behind_word line_form burst_write_form
 burst_write_is_read wide address phases fits values formed some few may =
     let burst = burst_is_read phases values formed some few in
     let place = address_is_read wide address fits may in
@@ -88,7 +88,7 @@ burst_write_is_read wide address phases fits values formed some few may =
 
 port_write_is_read : (wide : Bool) (address : ℕ) (phases : List Phase) → address < 2 ^ 32 → AllByRecursion PhaseFits phases → list_all is_well_formed_phase phases ≡ true → length phases ≡ 1
     → statement_of wide (write_line IoWrite address phases) ≡ Ok (Does (Write IoWrite address phases) false)
-unfolding statement_of statement_form behind_word form_of port_write_form
+unfolding statement_of statement_form behind_word line_form port_write_form
 port_write_is_read wide address [] fits values formed one = absurd (omega arith)
 port_write_is_read wide address (phase ∷ next ∷ phases) fits values formed one = absurd (omega arith)
 port_write_is_read wide address (phase ∷ []) fits values formed one =
@@ -121,7 +121,7 @@ write_is_read wide ConfigurationWrite address phases fits values formed may = ab
 
 poll_is_read : (wide : Bool) (space : Space) (address mask value tries : ℕ) → address < 2 ^ 64 → mask < 2 ^ 32 → value < 2 ^ 32 → (is_dword_in space address && is_within 1 65536 tries) ≡ true → (wide || is_short address) ≡ true
     → statement_of wide (op_line (Poll space address mask value tries)) ≡ Ok (Does (Poll space address mask value tries) false)
-unfolding statement_of statement_form behind_word form_of poll_form
+unfolding statement_of statement_form behind_word line_form poll_form
 poll_is_read wide Mem address mask value tries fits of_mask of_value formed may =
     let some : 1 ≤ tries = grind (arith, nat_tests) in
     let few : tries ≤ 65536 = grind (arith, nat_tests) in
@@ -134,7 +134,7 @@ poll_is_read wide Io address mask value tries fits of_mask of_value formed may =
 poll_is_read wide Cfg address mask value tries fits of_mask of_value formed may = absurd (let apart : false ≡ true = formed in cc)
 
 register_read_is_read : (wide : Bool) (bus device register : ℕ) → bus < 2 ^ 8 → is_well_formed_op (CfgRead bus device register) ≡ true → statement_of wide (op_line (CfgRead bus device register)) ≡ Ok (Does (CfgRead bus device register) false)
-unfolding statement_of statement_form behind_word form_of register_read_form
+unfolding statement_of statement_form behind_word line_form register_read_form
 register_read_is_read wide bus device register fits formed =
     let of_device : device ≤ 31 = grind (arith, nat_tests) in
     let of_register : register ≤ 63 = grind (arith, nat_tests) in
@@ -142,7 +142,7 @@ register_read_is_read wide bus device register fits formed =
 
 register_write_is_read : (wide : Bool) (bus device register : ℕ) (phase : Phase) → bus < 2 ^ 8 → PhaseFits phase → is_well_formed_op (CfgWrite bus device register phase) ≡ true
     → statement_of wide (op_line (CfgWrite bus device register phase)) ≡ Ok (Does (CfgWrite bus device register phase) false)
-unfolding statement_of statement_form behind_word form_of register_write_form
+unfolding statement_of statement_form behind_word line_form register_write_form
 register_write_is_read wide bus device register phase fits value formed =
     let of_device : device ≤ 31 = grind (arith, nat_tests) in
     let of_register : register ≤ 63 = grind (arith, nat_tests) in
@@ -168,9 +168,9 @@ plan_is_read : (planned : Planned) → PlannedFits planned → is_well_formed_pl
 plan_is_read planned fits formed = plan_parts planned.bus planned.up planned.count fits (grind (arith, nat_tests)) (grind (arith, nat_tests))
 
 pub discard_is_read : (wide : Bool) (planned : Planned) → PlannedFits planned → is_well_formed_plan planned ≡ true → statement_of wide (planned_line (codes "discard") planned) ≡ Ok (Discards planned)
-unfolding statement_of statement_form behind_word form_of discard_form
+unfolding statement_of statement_form behind_word line_form discard_form
 discard_is_read wide planned fits formed = rw (plan_is_read planned fits formed) refl
 
 pub drop_is_read : (wide : Bool) (planned : Planned) → PlannedFits planned → is_well_formed_plan planned ≡ true → statement_of wide (planned_line (codes "drop") planned) ≡ Ok (Drops planned)
-unfolding statement_of statement_form behind_word form_of drop_form
+unfolding statement_of statement_form behind_word line_form drop_form
 drop_is_read wide planned fits formed = rw (plan_is_read planned fits formed) refl

@@ -17,7 +17,7 @@ use Rattle.board_printer.specs.Boards.{is_short, is_short_range}
 use Rattle.text_faults.specs.declared.board_line.LineFault.{LineFault}
 use Rattle.board_statements.specs.declared.statement.Statement.TheVariants.{NewTarget, Identifies, Stalls, Bursts, Claims, Aborts, Opens}
 use Rattle.board_statements.specs.Words.{hex_of, fixed_of, name_of, long_of}
-use Rattle.board_statements.specs.Keywords.{form_of}
+use Rattle.board_statements.specs.Keywords.{line_form}
 use Rattle.board_statements.specs.Targets.{space_of_word, target_form, id_form, stall_form, burst_form, range_form, claim_form, abort_form, opening_form}
 use Rattle.board_statements.specs.Statements.{behind_word, statement_form, statement_of}
 use Rattle.board_model.specs.Fits.{TargetFits, RangeFits, OpeningFits}
@@ -25,7 +25,7 @@ use Rattle.board_roundtrip.proofs.lines.NumberTexts.{number, decimal_is_read}
 use Rattle.board_roundtrip.proofs.lines.PartTexts.{word_is_read, half_is_read, address_is_read}
 
 pub target_is_read : (wide : Bool) (target : Target) → TargetFits target → is_well_formed_target target ≡ true → statement_of wide (target_line target) ≡ Ok (NewTarget target.name target.bus target.device)
-unfolding statement_of statement_form behind_word form_of target_form fixed_of name_of
+unfolding statement_of statement_form behind_word line_form target_form fixed_of name_of
 target_is_read wide target fits formed =
     let few : target.device ≤ 31 = grind (arith, nat_tests) in
     let bus = decimal_is_read 0 255 target.bus (omega arith) (let below = fits.bus in omega arith) (omega arith) in
@@ -33,15 +33,15 @@ target_is_read wide target fits formed =
     rw (fits.name, bus, device) refl
 
 pub id_is_read : (wide : Bool) (vendor model : ℕ) → vendor < 2 ^ 16 → model < 2 ^ 16 → statement_of wide (codes "id" ∷ half_text vendor ∷ half_text model ∷ []) ≡ Ok (Identifies vendor model)
-unfolding statement_of statement_form behind_word form_of id_form
+unfolding statement_of statement_form behind_word line_form id_form
 id_is_read wide vendor model of_vendor of_model = rw (half_is_read vendor of_vendor, half_is_read model of_model) refl
 
 pub stall_is_read : (wide : Bool) (tokens : ℕ) → tokens ≤ 1000000 → statement_of wide (codes "stall" ∷ decimal tokens ∷ []) ≡ Ok (Stalls tokens)
-unfolding statement_of statement_form behind_word form_of stall_form
+unfolding statement_of statement_form behind_word line_form stall_form
 stall_is_read wide tokens few = rw (decimal_is_read 0 1000000 tokens (omega arith) few (omega arith)) refl
 
 pub burst_is_read : (wide : Bool) (phases : ℕ) → 1 ≤ phases → phases ≤ 8 → statement_of wide (codes "burst" ∷ decimal phases ∷ []) ≡ Ok (Bursts phases)
-unfolding statement_of statement_form behind_word form_of burst_form
+unfolding statement_of statement_form behind_word line_form burst_form
 burst_is_read wide phases some few = rw (decimal_is_read 1 8 phases some few (omega arith)) refl
 
 -- a word that may be long where the whole may
@@ -83,17 +83,17 @@ range_is_read wide range fits formed may =
 
 pub claim_is_read : (wide : Bool) (range : Range) → RangeFits range → is_well_formed_range range ≡ true → (wide || is_short_range range) ≡ true
     → statement_of wide (range_line (codes "range") range) ≡ Ok (Claims range)
-unfolding statement_of statement_form behind_word form_of claim_form
+unfolding statement_of statement_form behind_word line_form claim_form
 claim_is_read wide range fits formed may = rw (range_is_read wide range fits formed may) refl
 
 pub abort_is_read : (wide : Bool) (range : Range) → RangeFits range → is_well_formed_range range ≡ true → (wide || is_short_range range) ≡ true
     → statement_of wide (range_line (codes "abort") range) ≡ Ok (Aborts range)
-unfolding statement_of statement_form behind_word form_of abort_form
+unfolding statement_of statement_form behind_word line_form abort_form
 abort_is_read wide range fits formed may = rw (range_is_read wide range fits formed may) refl
 
 opening_parts : (wide : Bool) (space : Space) (address value : ℕ) → address < 2 ^ 64 → value < 2 ^ 32 → is_dword_in space address ≡ true → (wide || is_short address) ≡ true
     → statement_of wide (codes "word" ∷ space_word space ∷ address_text address ∷ word_text value ∷ []) ≡ Ok (Opens (record { space = space; address = address; value = value }))
-unfolding statement_of statement_form behind_word form_of opening_form space_of_word
+unfolding statement_of statement_form behind_word line_form opening_form space_of_word
 opening_parts wide Mem address value of_address of_value formed may = rw (address_is_read wide address of_address may, word_is_read value of_value) refl
 opening_parts wide Io address value of_address of_value formed may =
     let below : address < 2 ^ 32 = grind (arith, nat_tests) in

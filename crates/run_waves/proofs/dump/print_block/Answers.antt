@@ -2,8 +2,8 @@ use Rattle.std.proofs.Common.{◌≡◌, ◌<◌, ◌≤◌, ◌+◌, ◌++◌, 
 use Rattle.std.proofs.lemmas.Bool.Decides.{nat_tests}
 use Rattle.std.proofs.lemmas.Option.{slice_get-get_or}
 use Rattle.board_printer.specs.Lines.{Line, text_of}
-use Rattle.run_waves.specs.declared.reading.Reading.{Reading}
-use Rattle.run_waves.specs.declared.reading.Reading.TheVariants.{Level}
+use Rattle.run_waves.specs.declared.reading.SignalReading.{SignalReading}
+use Rattle.run_waves.specs.declared.reading.SignalReading.TheVariants.{Level}
 use Rattle.run_waves.specs.declared.signal.BusPart.TheVariants as parts
 use Rattle.run_waves.specs.declared.signal.Signal.{Signal}
 use Rattle.run_waves.specs.declared.signal.Signal.TheVariants.{Bus}
@@ -29,9 +29,9 @@ loop-number-preserved c =
     let shown = c.loop-number.shown in
     let first = c.args.shown.now in
     let s : Signal = Bus 0 parts.Event in
-    let r : Reading = Level false in
+    let r : SignalReading = Level false in
     let signal : Signal = get_or signals i s in
-    let reading : Reading = get_or shown i r in
+    let reading : SignalReading = get_or shown i r in
     let text = string_bytes c.loop-number.text in
     let from : start ≤ i = c.loop-number.auto.number in
     let within : i < length signals = omega (arith, c.loop-number-test.true, c.min-number-end.ensures) in
@@ -49,11 +49,11 @@ loop-number-preserved c =
                 (c.loop-number.invariant.text before after follows scene was at)
                 (w.in_ok-shown.ensures.text before after scene (was i signal reading from signal_at reading_at) at);
             reads = λ before after follows scene was at below.
-                subst (λ (l : List Reading). ReadsBelow board after signals l (i + 1)) (sym w.shown-is)
+                subst (λ (l : List SignalReading). ReadsBelow board after signals l (i + 1)) (sym w.shown-is)
                 (reads_more board after signals shown i new signal so (c.loop-number.invariant.reads before after follows scene was at below) signal_at (w.in_ok-shown.ensures.reads after at));
             rest = λ k more.
                 let apart : eqb i k ≡ false = grind (arith, nat_tests) in
-                ap (λ (l : List Reading). slice_get l k) w.shown-is ∙ set_other shown i k new apart ∙ c.loop-number.invariant.rest k (omega (arith, more));
+                ap (λ (l : List SignalReading). slice_get l k) w.shown-is ∙ set_other shown i k new apart ∙ c.loop-number.invariant.rest k (omega (arith, more));
           }
       | else-may_change w ↦
           let off : may_change (touch_of board c.args.passed.now.from c.scene.result) signal ≡ false =
@@ -68,9 +68,9 @@ loop-number-preserved c =
             reads = λ before after follows scene was at below.
                 let old = was i signal reading from signal_at reading_at in
                 let still = untouched_reads board before after c.args.passed.now.from c.scene.result signal reading follows scene (c.scene.ensures ∙ at.scene_is) off old in
-                subst (λ (l : List Reading). ReadsBelow board after signals l (i + 1)) (sym w.shown-is)
+                subst (λ (l : List SignalReading). ReadsBelow board after signals l (i + 1)) (sym w.shown-is)
                 (reads_kept board after signals shown i reading signal (c.loop-number.invariant.reads before after follows scene was at below) signal_at reading_here still);
-            rest = λ k more. ap (λ (l : List Reading). slice_get l k) w.shown-is ∙ c.loop-number.invariant.rest k (omega (arith, more));
+            rest = λ k more. ap (λ (l : List SignalReading). slice_get l k) w.shown-is ∙ c.loop-number.invariant.rest k (omega (arith, more));
           }
     ]
 

@@ -1,8 +1,8 @@
 use Rattle.std.proofs.Common.{◌≡◌, ℕ, ◌+◌, ◌*◌, ◌++◌, false, get_or, List, sym, ap, subst, ◌∙◌, arith, string_bytes, slice_get}
 use Rattle.std.proofs.lemmas.Option.{slice_get-get_or}
 use Rattle.board_printer.specs.Lines.{Line, text_of}
-use Rattle.run_waves.specs.declared.blocks.Span.{Span}
-use Rattle.run_waves.specs.declared.reading.Reading.{Reading}
+use Rattle.run_waves.specs.declared.blocks.BlockSpan.{BlockSpan}
+use Rattle.run_waves.specs.declared.reading.SignalReading.{SignalReading}
 use Rattle.run_waves.specs.declared.touched.Touch.{Touch}
 use Rattle.run_waves.specs.Scenes.{ReadsBelow}
 use Rattle.run_waves.specs.Touched.{touch_of}
@@ -18,8 +18,8 @@ loop-number-preserved c =
     let blocks = c.args.blocks.now in
     let signals = blocks.signals.now in
     let first = c.args.shown.now in
-    let d : Span = record { low = 0; high = 0 } in
-    let span : Span = get_or blocks.spans.now n d in
+    let d : BlockSpan = record { low = 0; high = 0 } in
+    let span : BlockSpan = get_or blocks.spans.now n d in
     let span_at = slice_get-get_or blocks.spans.now n d c.loop-number-test.true in
     let next : n * 32 + 32 ≡ (n + 1) * 32 = omega arith in
     elim c.if-meets.branch [
@@ -33,11 +33,11 @@ loop-number-preserved c =
                 ∙ c.loop-number.invariant.text before after follows scene was at;
             reads = λ before after follows scene was at.
                 let to_come = reads_rest board before signals first c.loop-number.shown (n * 32) was c.loop-number.invariant.rest in
-                subst (λ (l : List Reading). ReadsBelow board after signals l ((n + 1) * 32)) (sym w.shown-is)
+                subst (λ (l : List SignalReading). ReadsBelow board after signals l ((n + 1) * 32)) (sym w.shown-is)
                 (subst (λ (m : ℕ). ReadsBelow board after signals w.print_block.new.shown m) next
                 (w.in_ok-print_block.ensures.reads before after follows scene to_come at (c.loop-number.invariant.reads before after follows scene was at)));
             rest = λ k more.
-                ap (λ (l : List Reading). slice_get l k) w.shown-is ∙ w.in_ok-print_block.ensures.rest k (omega (arith, more)) ∙ c.loop-number.invariant.rest k (omega (arith, more));
+                ap (λ (l : List SignalReading). slice_get l k) w.shown-is ∙ w.in_ok-print_block.ensures.rest k (omega (arith, more)) ∙ c.loop-number.invariant.rest k (omega (arith, more));
           }
       | else-meets w ↦
           let off : meets span (touch_of board c.args.passed.now.from c.scene.result) ≡ false =
@@ -52,10 +52,10 @@ loop-number-preserved c =
                 ∙ c.loop-number.invariant.text before after follows scene was at;
             reads = λ before after follows scene was at.
                 let to_come = reads_rest board before signals first c.loop-number.shown (n * 32) was c.loop-number.invariant.rest in
-                subst (λ (l : List Reading). ReadsBelow board after signals l ((n + 1) * 32)) (sym w.shown-is)
+                subst (λ (l : List SignalReading). ReadsBelow board after signals l ((n + 1) * 32)) (sym w.shown-is)
                 (subst (λ (m : ℕ). ReadsBelow board after signals c.loop-number.shown m) next
                 (passed_reads board before after c.args.passed.now.from c.scene.result signals c.loop-number.shown (n * 32) span follows scene (c.scene.ensures ∙ at.scene_is) within off to_come
                 (c.loop-number.invariant.reads before after follows scene was at)));
-            rest = λ k more. ap (λ (l : List Reading). slice_get l k) w.shown-is ∙ c.loop-number.invariant.rest k (omega (arith, more));
+            rest = λ k more. ap (λ (l : List SignalReading). slice_get l k) w.shown-is ∙ c.loop-number.invariant.rest k (omega (arith, more));
           }
     ]

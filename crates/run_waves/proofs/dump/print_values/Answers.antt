@@ -1,8 +1,8 @@
 use Rattle.std.proofs.Common.{◌<◌, ◌++◌, false, length, get_or, arith, string_bytes}
 use Rattle.std.proofs.lemmas.Option.{slice_get-get_or}
 use Rattle.board_printer.specs.Lines.{text_of}
-use Rattle.run_waves.specs.declared.reading.Reading.{Reading}
-use Rattle.run_waves.specs.declared.reading.Reading.TheVariants.{Level}
+use Rattle.run_waves.specs.declared.reading.SignalReading.{SignalReading}
+use Rattle.run_waves.specs.declared.reading.SignalReading.TheVariants.{Level}
 use Rattle.run_waves.specs.declared.signal.BusPart.TheVariants as parts
 use Rattle.run_waves.specs.declared.signal.Signal.{Signal}
 use Rattle.run_waves.specs.declared.signal.Signal.TheVariants.{Bus}
@@ -17,7 +17,7 @@ loop-number-preserved c = λ board reads.
     let signals = c.args.signals.now in
     let shown = c.args.shown.now in
     let s : Signal = Bus 0 parts.Event in
-    let r : Reading = Level false in
+    let r : SignalReading = Level false in
     let within : i < length signals = c.loop-number-test.true in
     let so : i < length shown = omega (arith, c.requires, within) in
     let here = reads i (get_or signals i s) (get_or shown i r) (omega arith) (slice_get-get_or signals i s within) (slice_get-get_or shown i r so) in

@@ -1,7 +1,7 @@
 use Rattle.std.proofs.Common.{List, length, refl, sym, ap, ◌++◌, ◌∙◌, string_bytes}
 use Rattle.board_model.specs.declared.board.Board.{Board}
 use Rattle.board_printer.specs.Lines.{text_of}
-use Rattle.run_waves.specs.declared.reading.Reading.{Reading}
+use Rattle.run_waves.specs.declared.reading.SignalReading.{SignalReading}
 use Rattle.run_waves.specs.declared.signal.Signal.{Signal}
 use Rattle.run_waves.specs.Signals.{signals_of}
 use Rattle.run_waves.specs.Shown.{beginning}
@@ -12,7 +12,7 @@ use Rattle.run_waves.proofs.dump.print_watched.Goals as goal
 
 pub print_first-requires : goal.print_first-requires
 print_first-requires c =
-    ap (λ (l : List Signal). length l) (c.deref-2.ensures.value ∙ sym c.deref.ensures.value) ∙ sym c.in_ok-shown.ensures.each ∙ ap (λ (l : List Reading). length l) (sym c.deref-3.ensures.value)
+    ap (λ (l : List Signal). length l) (c.deref-2.ensures.value ∙ sym c.deref.ensures.value) ∙ sym c.in_ok-shown.ensures.each ∙ ap (λ (l : List SignalReading). length l) (sym c.deref-3.ensures.value)
 
 pub print_moments-requires : goal.print_moments-requires
 print_moments-requires c =

@@ -21,6 +21,7 @@ pub returns : goal.returns
 returns c =
     record {
       verdict = λ h stands. c.step_on.ensures.verdict Tagged h stands;
+      moved = λ h stands. c.step_on.ensures.moved Tagged h stands;
       goes_on = λ h stands. c.step_on.ensures.goes_on Tagged h stands;
       refused = c.step_on.ensures.refused;
     }

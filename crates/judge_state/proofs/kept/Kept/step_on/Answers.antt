@@ -2,6 +2,7 @@ use Rattle.std.proofs.Common.{None, Some, refl}
 use Rattle.history_model.specs.declared.rule.Rule.{Rule}
 use Rattle.history_model.specs.Runs.{AllowedBy}
 use Rattle.law_lanes.proofs.Laws.{WellFormed-single}
+use Rattle.judge_state.proofs.FoundLemmas.{found_same}
 use Rattle.judge_state.proofs.GoneLemmas.{gone_fits}
 use Rattle.judge_state.proofs.SmallLemmas.{parts_small}
 use Rattle.judge_state.proofs.StepLemmas.{holds_same, stands_after, rooms_there}
@@ -24,9 +25,12 @@ pub returns-in-Ok : goal.returns-in-Ok
 returns-in-Ok c =
     record {
       verdict = λ rule h stands. holds_same rule c.args.board.now h c.args.self.now c.args.event.now None stands c.in-Ok.ensures;
+      moved = λ rule h stands.
+          let allowed : AllowedBy rule c.args.board.now h c.args.event.now = holds_same rule c.args.board.now h c.args.self.now c.args.event.now None stands c.in-Ok.ensures in
+          found_same rule c.args.board.now h c.args.self.now c.args.event.now _ stands allowed c.happen.ensures.found;
       goes_on = λ rule h stands.
           let allowed : AllowedBy rule c.args.board.now h c.args.event.now = holds_same rule c.args.board.now h c.args.self.now c.args.event.now None stands c.in-Ok.ensures in
-          rw c.happen.ensures (stands_after rule c.args.board.now h c.args.self.now c.args.event.now (WellFormed-single c.args.board.now c.requires.valid.well_formed) stands allowed);
+          rw c.happen.ensures.state (stands_after rule c.args.board.now h c.args.self.now c.args.event.now (WellFormed-single c.args.board.now c.requires.valid.well_formed) stands allowed);
       refused = tt;
     }
 
@@ -34,6 +38,7 @@ pub returns-in-Err : goal.returns-in-Err
 returns-in-Err c =
     record {
       verdict = λ rule h stands. holds_same rule c.args.board.now h c.args.self.now c.args.event.now (Some c.in-Err.why) stands c.in-Err.ensures;
+      moved = λ rule h stands. tt;
       goes_on = λ rule h stands. tt;
       refused = refl;
     }
