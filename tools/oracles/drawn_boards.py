@@ -1,6 +1,13 @@
 """Texts of valid boards, drawn by a random.Random: small ones of up to four buses, in which masters tell one another by
 flags, and ones at limits of boards. For tools/oracles/safe-by-definitions.
 """
+import os
+import sys
+
+sys.path.insert(0, os.path.dirname(os.path.dirname(os.path.realpath(__file__))))
+
+import limits  # noqa: E402
+
 MEBI, WIDE = 0x100000, 1 << 32
 VALUES = (0, 1, 1, 2, 3, 0x100, 0xFFFFFFFF)
 MASKS = (0xFFFFFFFF, 0xFFFFFFFF, 0xFFFFFFFF, 1, 0xFF, 0xFFFF0000)
@@ -227,10 +234,10 @@ def most_agents(rng):
 
 
 def most_operations(rng):
-    """One bus, 7 masters with 1,024 operations each: two tell each other in turn, some write bursts of 8 and read them."""
-    head = ["target ram on 0 dev 1", f"burst {rng.randint(1, 8)}", "range mem 00100000 00010000"]
+    """One bus, 7 masters with as many operations as there may be: two tell each other in turn, some write bursts of 8 and read them."""
+    head = ["target ram on 0 dev 1", f"burst {rng.randint(1, limits.MOST_DWORDS)}", "range mem 00100000 00010000"]
     ping, pong = [], []
-    for turn in range(256):
+    for turn in range(limits.MOST_OPS // 4):
         # flags of 16 words in turn, so that the word of a flag has few writes
         data, flag = f"{turn + 1:08x}", 4 * (turn % 16)
         ping += [f"mw 00100000 {data}", f"mw {0x100040 + flag:08x} {data}", f"poll {0x100080 + flag:08x} ffffffff {data} 2", "mr 00100004"]
@@ -240,22 +247,22 @@ def most_operations(rng):
     programs = [("ping", 0, ping), ("pong", 0, pong)]
     for number in range(5):
         lines = []
-        for _ in range(512):
+        for _ in range(limits.MOST_OPS // 2):
             block = 0x00101000 + 0x1000 * number + 64 * rng.randrange(64)
-            lines.append("mw %08x %s" % (block, " ".join("%08x" % rng.randrange(WIDE) for _ in range(8))))
-            lines.append("mr %08x" % (block + 4 * rng.randrange(8)))
+            lines.append("mw %08x %s" % (block, " ".join("%08x" % rng.randrange(WIDE) for _ in range(limits.MOST_DWORDS))))
+            lines.append("mr %08x" % (block + 4 * rng.randrange(limits.MOST_DWORDS)))
         programs.append((f"burst{number}", 0, lines))
     if rng.random() < 0.5:
-        del programs[0][2][rng.randrange(1024)]
+        del programs[0][2][rng.randrange(limits.MOST_OPS)]
     return board_text(head, programs)
 
 
 def most_tries(rng):
-    """One bridge, 65,536 operations: a poll of all that are left."""
-    left = 65536 - rng.choice([1, 3, 4])
+    """One bridge, as many operations as there may be: a poll of all that are left."""
+    left = limits.MOST_TRIES - rng.choice([1, 3, 4])
     head = ["bridge 1 on 0 dev 1 last 1 mem 80000000 800fffff", "target ram on 0 dev 2", "range mem 00100000 00001000"]
-    writer = ["mw 00100000 0000002a", "mw 00100040 00000001"][-(65536 - left) :]
-    reader = [f"poll 00100040 ffffffff 00000001 {left}"] + ["mr 00100000"] * (65536 - left - len(writer))
+    writer = ["mw 00100000 0000002a", "mw 00100040 00000001"][-(limits.MOST_TRIES - left) :]
+    reader = [f"poll 00100040 ffffffff 00000001 {left}"] + ["mr 00100000"] * (limits.MOST_TRIES - left - len(writer))
     return board_text(head, [("nic", 1, writer), ("cpu", 0, reader)])
 
 

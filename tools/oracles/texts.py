@@ -1,6 +1,13 @@
 """Boards and traces as the second programs read them: what a text that the program takes says, and where a request goes on
 a board. It refuses nothing. (fronts reads each text by itself, since it says what is refused; observe-by-definitions logs.)
 """
+import os
+import sys
+
+sys.path.insert(0, os.path.dirname(os.path.dirname(os.path.realpath(__file__))))
+
+import limits  # noqa: E402
+
 READS = ("mr", "mrl", "mrm", "ior", "cfr")
 WRITES = ("mw", "mwi", "iow", "cfw")
 POLLS = ("poll", "iopoll")
@@ -62,7 +69,7 @@ class Board:
             self.bridges.append(bridge_of_header(int(words[0]), bytes.fromhex(words[1])))
         elif kind == "target":
             place = dict(name=words[0], bus=int(words[2]), dev=int(words[4]), id=(0x1234, 1))
-            self.targets.append(dict(place, range=[], abort=[], word={}, stall=0, burst=8))
+            self.targets.append(dict(place, range=[], abort=[], word={}, stall=0, burst=limits.MOST_DWORDS))
         elif kind == "id":
             self.targets[-1]["id"] = (int(words[0], 16), int(words[1], 16))
         elif kind in ("range", "abort"):

@@ -6,7 +6,7 @@ ghost use Rattle.board_model.specs.WellFormed.{is_well_formed_opening, is_well_f
 ghost use Rattle.board_model.specs.WellFormed.{is_target_named, is_master_named};
 ghost use Rattle.board_model.specs.WellFormed.{are_masters_named_apart, are_targets_named_apart};
 
-use board_model::{Master, Opening, Range, Target, registers_fit};
+use board_model::{MOST_DWORDS, MOST_OPENINGS, Master, Opening, Range, Target, registers_fit};
 use pci_command::Space;
 
 pub(crate) fn are_targets_well_formed(targets: &[Target]) -> bool
@@ -23,14 +23,14 @@ fn is_target_well_formed(target: &Target) -> bool
     let numbers = target.device <= 31
         && target.stalls <= 1_000_000
         && 1 <= target.burst
-        && target.burst <= 8;
+        && usize::from(target.burst) <= MOST_DWORDS;
     numbers
         && are_ranges_well_formed(target.ranges.as_slice())
         && registers_fit(target.ranges.as_slice(), 6)
         && are_ranges_well_formed(aborts)
         && aborts.len() <= 6
         && are_openings_well_formed(openings)
-        && openings.len() <= 256
+        && openings.len() <= MOST_OPENINGS
 }
 
 fn are_ranges_well_formed(ranges: &[Range]) -> bool

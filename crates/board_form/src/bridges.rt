@@ -3,7 +3,7 @@ ghost use Rattle.std.specs.List.{list_all, list_any};
 ghost use Rattle.board_model.specs.WellFormed.{is_within, is_window, is_well_formed_bridge};
 ghost use Rattle.board_model.specs.WellFormed.{has_bus, are_numbered_apart};
 
-use board_model::{Bridge, Window};
+use board_model::{Bridge, MOST_DELAYED, MOST_POSTED, Window};
 
 pub(crate) fn are_well_formed(bridges: &[Bridge]) -> bool
     ensures { result ≡ list_all is_well_formed_bridge bridges.now }
@@ -16,17 +16,17 @@ fn is_well_formed(bridge: &Bridge) -> bool
 {
     bridge.bus >= 1
         && bridge.device <= 31
-        && is_depth(bridge.posted)
-        && is_depth(bridge.delayed)
+        && is_depth(bridge.posted, MOST_POSTED)
+        && is_depth(bridge.delayed, MOST_DELAYED)
         && is_window(0x10_0000, 0x1_0000_0000, bridge.mem)
         && is_window(0x10_0000, 0x1_0000_0000_0000_0000, bridge.pref)
         && is_window(0x1000, 0x1_0000_0000, bridge.io)
 }
 
-fn is_depth(depth: u8) -> bool
-    ensures { result ≡ is_within 1 8 depth }
+fn is_depth(depth: u8, most: u8) -> bool
+    ensures { result ≡ is_within 1 most depth }
 {
-    1 <= depth && depth <= 8
+    1 <= depth && depth <= most
 }
 
 fn is_window(unit: u128, end: u128, window: Option<Window>) -> bool

@@ -10,7 +10,7 @@ mod ops;
 ghost use Rattle.std.specs.Prelude.{◌≡◌};
 ghost use Rattle.board_model.specs.WellFormed.{is_well_formed};
 
-use board_model::Board;
+use board_model::{Board, MOST_BRIDGES};
 
 /// Whether a text can be of the board: every number is in its range, every address is a multiple
 /// of its unit, no two bridges have one secondary bus, no two agents one name, and the limits on
@@ -21,7 +21,7 @@ pub fn well_formed(board: &Board) -> bool
     let bridges = board.bridges.as_slice();
     let targets = board.targets.as_slice();
     let masters = board.masters.as_slice();
-    bridges.len() <= 31
+    bridges.len() <= MOST_BRIDGES
         && bridges::are_well_formed(bridges)
         && bridges::are_numbered_apart(bridges)
         && agents::are_targets_well_formed(targets)

@@ -6,7 +6,9 @@ ghost use Rattle.board_model.specs.Requests.{tries_of};
 ghost use Rattle.board_model.specs.WellFormed.{is_within, is_well_formed_plan, children_on};
 ghost use Rattle.board_model.specs.WellFormed.{agents_on, are_few, operations_in};
 
-use board_model::{Board, Master, Op, Planned, tries_of};
+use board_model::{
+    Board, MOST_AGENTS, MOST_CHILDREN, MOST_PLANS, MOST_TRIES, Master, Op, Planned, tries_of,
+};
 
 pub(crate) fn are_few(board: &Board) -> bool
     ensures { result ≡ are_few board.now }
@@ -16,18 +18,14 @@ pub(crate) fn are_few(board: &Board) -> bool
 
 fn few_children(board: &Board) -> bool
     ensures { result ≡
-        list_all (λ bridge. nat_le (children_on board.now bridge.parent) 8) board.now.bridges }
+        list_all (λ bridge. nat_le (children_on board.now bridge.parent) MOST_CHILDREN) board.now.bridges }
 {
-    board
-        .bridges
-        .as_slice()
-        .iter()
-        .all(|bridge| children_on(board, bridge.parent) <= 8)
+    board.bridges.as_slice().iter().all(|bridge| children_on(board, bridge.parent) <= MOST_CHILDREN)
 }
 
 fn few_agents_by_targets(board: &Board) -> bool
     ensures { result ≡
-        list_all (λ target. nat_le (agents_on board.now target.bus) 8) board.now.targets }
+        list_all (λ target. nat_le (agents_on board.now target.bus) MOST_AGENTS) board.now.targets }
 {
     board
         .targets
@@ -38,7 +36,7 @@ fn few_agents_by_targets(board: &Board) -> bool
 
 fn few_agents_by_masters(board: &Board) -> bool
     ensures { result ≡
-        list_all (λ master. nat_le (agents_on board.now master.bus) 8) board.now.masters }
+        list_all (λ master. nat_le (agents_on board.now master.bus) MOST_AGENTS) board.now.masters }
 {
     board
         .masters
@@ -59,11 +57,11 @@ fn children_on(board: &Board, bus: u8) -> usize
 }
 
 fn has_few_agents(board: &Board, bus: u8) -> bool
-    ensures { result ≡ nat_le (agents_on board.now bus) 8 }
+    ensures { result ≡ nat_le (agents_on board.now bus) MOST_AGENTS }
 {
     let targets = targets_on(board, bus);
     let masters = masters_on(board, bus);
-    targets.saturating_add(masters) <= 8
+    targets.saturating_add(masters) <= MOST_AGENTS
 }
 
 fn targets_on(board: &Board, bus: u8) -> usize
@@ -88,11 +86,11 @@ fn masters_on(board: &Board, bus: u8) -> usize
         .count()
 }
 
-/// Whether there are at most 65,536 operations in all, each poll counted by its tries.
+/// Whether there are few enough operations in all, each poll counted by its tries.
 pub(crate) fn operations_fit(masters: &[Master]) -> bool
-    ensures { result ≡ nat_le (operations_in masters.now) 65536 }
+    ensures { result ≡ nat_le (operations_in masters.now) MOST_TRIES }
 {
-    let mut left = 65_536;
+    let mut left = MOST_TRIES;
     for master in masters {
         match operations_left(master.ops.as_slice(), left) {
             None => return false,
@@ -119,9 +117,9 @@ fn operations_left(ops: &[Op], most: u32) -> Option<u32>
 }
 
 pub(crate) fn are_plans_well_formed(plans: &[Planned]) -> bool
-    ensures { result ≡ (nat_le (length plans.now) 1024 && list_all is_well_formed_plan plans.now) }
+    ensures { result ≡ (nat_le (length plans.now) MOST_PLANS && list_all is_well_formed_plan plans.now) }
 {
-    plans.len() <= 1024 && all_plans_well_formed(plans)
+    plans.len() <= MOST_PLANS && all_plans_well_formed(plans)
 }
 
 fn all_plans_well_formed(plans: &[Planned]) -> bool

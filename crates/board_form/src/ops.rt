@@ -6,7 +6,7 @@ ghost use Rattle.board_model.specs.WellFormed.{is_burst_in, is_well_formed_write
 ghost use Rattle.board_model.specs.WellFormed.{is_well_formed_op, is_well_formed_master};
 
 use crate::agents::is_dword_in;
-use board_model::{Master, Op};
+use board_model::{MOST_DWORDS, MOST_OPS, MOST_TRIES, Master, Op};
 use pci_command::{Command, Phase, Space};
 
 pub(crate) fn are_masters_well_formed(masters: &[Master]) -> bool
@@ -19,7 +19,7 @@ fn is_master_well_formed(master: &Master) -> bool
     ensures { result ≡ is_well_formed_master master.now }
 {
     let ops = master.ops.as_slice();
-    ops.len() <= 1024 && are_ops_well_formed(ops)
+    ops.len() <= MOST_OPS && are_ops_well_formed(ops)
 }
 
 fn are_ops_well_formed(ops: &[Op]) -> bool
@@ -54,7 +54,7 @@ fn is_op_well_formed(op: &Op) -> bool
             address,
             tries,
             ..
-        } => is_dword_in(*space, *address) && 1 <= *tries && *tries <= 65_536,
+        } => is_dword_in(*space, *address) && 1 <= *tries && *tries <= MOST_TRIES,
     }
 }
 
@@ -100,12 +100,14 @@ fn is_write_well_formed(address: u64, phases: &[Phase], space: Option<Space>) ->
     }
 }
 
-/// One to eight dwords in one aligned block of 64 bytes of memory; one in I/O space.
+/// Dwords in one aligned block of 64 bytes of memory, few enough for a burst; one in I/O space.
 fn is_burst_in(space: Space, address: u64, phases: usize) -> bool
     ensures { result ≡ is_burst_in space address phases }
 {
     match space {
-        Space::Mem => 1 <= phases && phases <= 8 && address % 64 + 4 * phases as u64 <= 64,
+        Space::Mem => {
+            1 <= phases && phases <= MOST_DWORDS && address % 64 + 4 * phases as u64 <= 64
+        }
         Space::Io => phases == 1,
         Space::Cfg => false,
     }

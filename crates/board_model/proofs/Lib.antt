@@ -1,4 +1,5 @@
 pub mod FormLemmas
+pub mod FewLemmas
 pub mod OpLemmas
 pub mod Laws
 pub mod RangeLemmas

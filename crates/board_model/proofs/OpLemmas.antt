@@ -12,29 +12,30 @@ use Rattle.board_model.specs.declared.agents.Master.{Master}
 use Rattle.board_model.specs.declared.op.Op.{Op}
 use Rattle.board_model.specs.declared.op.Op.TheVariants.{Read, Write, CfgRead, CfgWrite, Poll}
 use Rattle.board_model.specs.declared.board.Board.{Board}
+use Rattle.board_model.specs.Limits.{most_dwords, most_ops, most_tries}
 use Rattle.board_model.specs.Requests.{tries_of, op_of, phases_of}
 use Rattle.board_model.specs.WellFormed.{IsWithin, write_space, is_well_formed_write, is_well_formed_op, is_well_formed_master, is_well_formed}
 use Rattle.board_model.proofs.FormLemmas.{Within-parts, Write-parts, Master-parts, WellFormed-parts}
 
 -- a well-formed operation is tried once, or a poll as often as it says
-pub op_tries : (op : Op) → is_well_formed_op op ≡ true → IsWithin 1 65536 (tries_of op)
+pub op_tries : (op : Op) → is_well_formed_op op ≡ true → IsWithin 1 most_tries (tries_of op)
 op_tries (Read command address) formed = record { from = lit≤ tt; to = lit≤ tt }
 op_tries (Write command address phases) formed = record { from = lit≤ tt; to = lit≤ tt }
 op_tries (CfgRead bus device register) formed = record { from = lit≤ tt; to = lit≤ tt }
 op_tries (CfgWrite bus device register phase) formed = record { from = lit≤ tt; to = lit≤ tt }
-op_tries (Poll space address mask value tries) formed = Within-parts 1 65536 tries (and_parts _ _ formed).1
+op_tries (Poll space address mask value tries) formed = Within-parts 1 most_tries tries (and_parts _ _ formed).1
 
-one_phase : (n : ℕ) → n ≡ 1 → IsWithin 1 8 n
+one_phase : (n : ℕ) → n ≡ 1 → IsWithin 1 most_dwords n
 one_phase n one = record { from = omega (arith, one); to = omega (arith, one) }
 
-write_phases : (address : ℕ) (phases : List Phase) (space : Option Space) → is_well_formed_write address phases space ≡ true → IsWithin 1 8 (length phases)
+write_phases : (address : ℕ) (phases : List Phase) (space : Option Space) → is_well_formed_write address phases space ≡ true → IsWithin 1 most_dwords (length phases)
 write_phases address phases None formed = cc
-write_phases address phases (Some Mem) formed = Within-parts 1 8 (length phases) (and_parts _ _ (Write-parts Mem address phases formed).burst).0
+write_phases address phases (Some Mem) formed = Within-parts 1 most_dwords (length phases) (and_parts _ _ (Write-parts Mem address phases formed).burst).0
 write_phases address phases (Some Io) formed = one_phase (length phases) (eqb-true (length phases) 1 (Write-parts Io address phases formed).burst)
 write_phases address phases (Some Cfg) formed = cc
 
--- and has one to eight data phases
-pub op_phases : (op : Op) → is_well_formed_op op ≡ true → IsWithin 1 8 (length (phases_of op))
+-- and has a data phase or more
+pub op_phases : (op : Op) → is_well_formed_op op ≡ true → IsWithin 1 most_dwords (length (phases_of op))
 op_phases (Read command address) formed = record { from = lit≤ tt; to = lit≤ tt }
 op_phases (Write command address phases) formed = write_phases address phases (write_space command) formed
 op_phases (CfgRead bus device register) formed = record { from = lit≤ tt; to = lit≤ tt }
@@ -77,7 +78,7 @@ op_formed board o op formed is =
     list_all-get is_well_formed_op there.master.ops o.index op (Master-parts there.master master).ops there.is_op
 
 -- and the numbers of its name are small
-pub op_limits : (board : Board) (o : OpId) (op : Op) → is_well_formed board ≡ true → op_of board o ≡ Some op → (o.index < 1024) × (o.attempt < 65536)
+pub op_limits : (board : Board) (o : OpId) (op : Op) → is_well_formed board ≡ true → op_of board o ≡ Some op → (o.index < most_ops) × (o.attempt < most_tries)
 op_limits board o op formed is =
     let there = op_there board o op is in
     let master = list_all-get is_well_formed_master board.masters o.master there.master (WellFormed-parts board formed).masters there.is_master in

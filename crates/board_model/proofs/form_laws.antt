@@ -6,5 +6,4 @@ pub mod TurnLemmas
 pub mod OneLemmas
 pub mod SpanLemmas
 pub mod ClaimantLemmas
-pub mod FewLemmas
 pub mod Laws

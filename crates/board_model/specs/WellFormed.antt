@@ -20,6 +20,7 @@ use Rattle.board_model.specs.declared.op.Op.TheVariants.{Read, Write, CfgRead, C
 use Rattle.board_model.specs.declared.board.Board.{Board}
 use Rattle.board_model.specs.declared.board.Planned.{Planned}
 use Rattle.board_model.specs.Requests.{tries_of}
+use Rattle.board_model.specs.Limits.{most_bridges, most_children, most_agents, most_posted, most_delayed, most_dwords, most_ops, most_tries, most_openings, most_plans}
 
 -- from the least to the most, both included
 abbrev pub is_within : ℕ → ℕ → ℕ → Bool
@@ -52,7 +53,7 @@ pub record IsWindow (unit end : ℕ) (window : Window) : Type 0 where
 abbrev pub is_well_formed_bridge : Bridge → Bool
 is_well_formed_bridge bridge =
     nat_le 1 bridge.bus && nat_le bridge.device 31
-    && is_within 1 8 bridge.posted && is_within 1 8 bridge.delayed
+    && is_within 1 most_posted bridge.posted && is_within 1 most_delayed bridge.delayed
     && is_window (2 ^ 20) (2 ^ 32) bridge.mem && is_window (2 ^ 20) (2 ^ 64) bridge.pref && is_window (2 ^ 12) (2 ^ 32) bridge.io
 
 -- the same, by name
@@ -61,9 +62,9 @@ pub record IsWellFormedBridge (bridge : Bridge) : Type 0 where
   pub bus : 1 ≤ bridge.bus
   -- a bus has devices 0 to 31
   pub device : bridge.device ≤ 31
-  -- one to eight posted writes each way, and as many delayed requests
-  pub posted : IsWithin 1 8 bridge.posted
-  pub delayed : IsWithin 1 8 bridge.delayed
+  -- one posted write or more each way, and one delayed request or more
+  pub posted : IsWithin 1 most_posted bridge.posted
+  pub delayed : IsWithin 1 most_delayed bridge.delayed
   -- its windows, where it has them
   pub mem : is_window (2 ^ 20) (2 ^ 32) bridge.mem ≡ true
   pub pref : is_window (2 ^ 20) (2 ^ 64) bridge.pref ≡ true
@@ -115,10 +116,10 @@ registers_of range = if nat_lt range.base (2 ^ 32) then 1 else 2
 -- its numbers in their ranges, at most six base address registers, and its dwords at the beginning
 abbrev pub is_well_formed_target : Target → Bool
 is_well_formed_target target =
-    nat_le target.device 31 && nat_le target.stalls 1000000 && is_within 1 8 target.burst
+    nat_le target.device 31 && nat_le target.stalls 1000000 && is_within 1 most_dwords target.burst
     && list_all is_well_formed_range target.ranges && nat_le (total registers_of target.ranges) 6
     && list_all is_well_formed_range target.aborts && nat_le (length target.aborts) 6
-    && list_all is_well_formed_opening target.openings && nat_le (length target.openings) 256
+    && list_all is_well_formed_opening target.openings && nat_le (length target.openings) most_openings
 
 -- the same, by name
 pub record IsWellFormedTarget (target : Target) : Type 0 where
@@ -126,8 +127,8 @@ pub record IsWellFormedTarget (target : Target) : Type 0 where
   pub device : target.device ≤ 31
   -- how many accesses it meets with Retry
   pub stalls : target.stalls ≤ 1000000
-  -- it takes one to eight data phases at a time
-  pub burst : IsWithin 1 8 target.burst
+  -- how many data phases it takes at a time
+  pub burst : IsWithin 1 most_dwords target.burst
   -- the ranges that it claims, which its six base address registers hold
   pub ranges : list_all is_well_formed_range target.ranges ≡ true
   pub registers : total registers_of target.ranges ≤ 6
@@ -136,7 +137,7 @@ pub record IsWellFormedTarget (target : Target) : Type 0 where
   pub few_aborts : length target.aborts ≤ 6
   -- the dwords that it begins with
   pub openings : list_all is_well_formed_opening target.openings ≡ true
-  pub few_openings : length target.openings ≤ 256
+  pub few_openings : length target.openings ≤ most_openings
 
 -- Masters.
 
@@ -173,9 +174,9 @@ abbrev pub is_well_formed_read : ℕ → Option Space → Bool
 is_well_formed_read address None = false
 is_well_formed_read address (Some space) = is_dword_in space address
 
--- one to eight dwords in one aligned block of 64 bytes of memory; one in I/O space
+-- dwords in one aligned block of 64 bytes of memory, few enough for a burst; one in I/O space
 abbrev pub is_burst_in : Space → ℕ → ℕ → Bool
-is_burst_in Mem address phases = is_within 1 8 phases && nat_le (address % 64 + 4 * phases) 64
+is_burst_in Mem address phases = is_within 1 most_dwords phases && nat_le (address % 64 + 4 * phases) 64
 is_burst_in Io address phases = phases == 1
 is_burst_in Cfg address phases = false
 
@@ -194,21 +195,21 @@ pub record IsWellFormedWrite (space : Space) (address : ℕ) (phases : List Phas
   -- the byte enables of each
   pub enables : list_all is_well_formed_phase phases ≡ true
 
--- an operation of a program: a poll reads one to 65,536 times
+-- an operation of a program: a poll reads once or more
 abbrev pub is_well_formed_op : Op → Bool
 is_well_formed_op (Read command address) = is_well_formed_read address (read_space command)
 is_well_formed_op (Write command address phases) = is_well_formed_write address phases (write_space command)
 is_well_formed_op (CfgRead bus device register) = nat_le device 31 && nat_le register 63
 is_well_formed_op (CfgWrite bus device register phase) = nat_le device 31 && nat_le register 63 && is_well_formed_phase phase
-is_well_formed_op (Poll space address mask value tries) = is_dword_in space address && is_within 1 65536 tries
+is_well_formed_op (Poll space address mask value tries) = is_dword_in space address && is_within 1 most_tries tries
 
--- a program of at most 1,024 operations
+-- a program that is not too long
 abbrev pub is_well_formed_master : Master → Bool
-is_well_formed_master master = nat_le (length master.ops) 1024 && list_all is_well_formed_op master.ops
+is_well_formed_master master = nat_le (length master.ops) most_ops && list_all is_well_formed_op master.ops
 
 -- the same, by name
 pub record IsWellFormedMaster (master : Master) : Type 0 where
-  pub few : length master.ops ≤ 1024
+  pub few : length master.ops ≤ most_ops
   pub ops : list_all is_well_formed_op master.ops ≡ true
 
 -- The board as a whole.
@@ -255,18 +256,18 @@ abbrev pub agents_on : Board → ℕ → ℕ
 agents_on board bus =
     count_by (λ (target : Target). target.bus == bus) board.targets + count_by (λ (master : Master). master.bus == bus) board.masters
 
--- at most eight bridges below a bus, and at most eight agents on it
+-- few bridges below a bus, and few agents on it
 abbrev pub are_few : Board → Bool
 are_few board =
-    list_all (λ (bridge : Bridge). nat_le (children_on board bridge.parent) 8) board.bridges
-    && list_all (λ (target : Target). nat_le (agents_on board target.bus) 8) board.targets
-    && list_all (λ (master : Master). nat_le (agents_on board master.bus) 8) board.masters
+    list_all (λ (bridge : Bridge). nat_le (children_on board bridge.parent) most_children) board.bridges
+    && list_all (λ (target : Target). nat_le (agents_on board target.bus) most_agents) board.targets
+    && list_all (λ (master : Master). nat_le (agents_on board master.bus) most_agents) board.masters
 
 -- the same, by name: on the primary bus of each bridge, and on the bus of each target and of each master
 pub record AreFew (board : Board) : Type 0 where
-  pub bridges : list_all (λ (bridge : Bridge). nat_le (children_on board bridge.parent) 8) board.bridges ≡ true
-  pub targets : list_all (λ (target : Target). nat_le (agents_on board target.bus) 8) board.targets ≡ true
-  pub masters : list_all (λ (master : Master). nat_le (agents_on board master.bus) 8) board.masters ≡ true
+  pub bridges : list_all (λ (bridge : Bridge). nat_le (children_on board bridge.parent) most_children) board.bridges ≡ true
+  pub targets : list_all (λ (target : Target). nat_le (agents_on board target.bus) most_agents) board.targets ≡ true
+  pub masters : list_all (λ (master : Master). nat_le (agents_on board master.bus) most_agents) board.masters ≡ true
 
 -- operations in all, each poll counted by its tries
 abbrev pub operations_in : List Master → ℕ
@@ -275,17 +276,17 @@ operations_in masters = total (λ (master : Master). total tries_of master.ops) 
 -- a board that a text can be of
 abbrev pub is_well_formed : Board → Bool
 is_well_formed board =
-    nat_le (length board.bridges) 31 && list_all is_well_formed_bridge board.bridges && are_numbered_apart board.bridges
+    nat_le (length board.bridges) most_bridges && list_all is_well_formed_bridge board.bridges && are_numbered_apart board.bridges
     && list_all is_well_formed_target board.targets && list_all is_well_formed_master board.masters && are_few board
     && are_targets_named_apart board.masters board.targets && are_masters_named_apart board.masters
-    && nat_le (operations_in board.masters) 65536
-    && nat_le (length board.discards) 1024 && list_all is_well_formed_plan board.discards
-    && nat_le (length board.drops) 1024 && list_all is_well_formed_plan board.drops
+    && nat_le (operations_in board.masters) most_tries
+    && nat_le (length board.discards) most_plans && list_all is_well_formed_plan board.discards
+    && nat_le (length board.drops) most_plans && list_all is_well_formed_plan board.drops
 
 -- the same, by name
 pub record IsWellFormed (board : Board) : Type 0 where
-  -- with bus 0 there are at most 32 buses
-  pub bridges_fit : length board.bridges ≤ 31
+  -- so with bus 0 there is one bus more
+  pub bridges_fit : length board.bridges ≤ most_bridges
   -- each bridge has its numbers in their ranges, and windows in whole units
   pub bridges : list_all is_well_formed_bridge board.bridges ≡ true
   -- no two bridges have one secondary bus
@@ -294,17 +295,17 @@ pub record IsWellFormed (board : Board) : Type 0 where
   pub targets : list_all is_well_formed_target board.targets ≡ true
   -- each master has a program of operations that a text can be of
   pub masters : list_all is_well_formed_master board.masters ≡ true
-  -- at most eight bridges below a bus, and at most eight agents on it
+  -- few bridges below a bus, and few agents on it
   pub few : AreFew board
   -- no two targets have one name, and none has that of a master
   pub targets_named_apart : are_targets_named_apart board.masters board.targets ≡ true
   -- no two masters have one name
   pub masters_named_apart : are_masters_named_apart board.masters ≡ true
-  -- at most 65,536 operations in all, each poll counted by its tries
-  pub operations : operations_in board.masters ≤ 65536
-  -- at most 1,024 delayed completions to discard, each by its count
-  pub discards_fit : length board.discards ≤ 1024
+  -- operations in all, each poll counted by its tries
+  pub operations : operations_in board.masters ≤ most_tries
+  -- delayed completions to discard, each by its count
+  pub discards_fit : length board.discards ≤ most_plans
   pub discards : list_all is_well_formed_plan board.discards ≡ true
-  -- at most 1,024 delayed requests to drop, each by its count
-  pub drops_fit : length board.drops ≤ 1024
+  -- delayed requests to drop, each by its count
+  pub drops_fit : length board.drops ≤ most_plans
   pub drops : list_all is_well_formed_plan board.drops ≡ true

@@ -83,7 +83,7 @@ fn claim_by_address(board: &Board, bus: u8, space: Space, address: u128) -> Plac
     }
 }
 
-#[tactic(auto, using(crate::proofs::claims::FewLemmas::few_targets_before, crate::proofs::claims::FewLemmas::target_more))]
+#[tactic(auto, using(crate::proofs::FewLemmas::few_targets_before, crate::proofs::FewLemmas::target_more))]
 fn target_at(board: &Board, bus: u8, space: Space, address: u128) -> Option<u16>
     requires { IsTrue (is_well_formed board.now) }
     ensures { result ≡ position_from (λ target. target.bus == bus &&
@@ -174,7 +174,7 @@ fn claim_by_device(board: &Board, bus: u8, device: u8) -> Place
     }
 }
 
-#[tactic(auto, using(crate::proofs::claims::FewLemmas::few_targets_before, crate::proofs::claims::FewLemmas::target_more))]
+#[tactic(auto, using(crate::proofs::FewLemmas::few_targets_before, crate::proofs::FewLemmas::target_more))]
 fn target_with(board: &Board, bus: u8, device: u8) -> Option<u16>
     requires { IsTrue (is_well_formed board.now) }
     ensures { result ≡

@@ -12,6 +12,7 @@ mod device;
 mod encoding;
 mod fits;
 pub mod form_laws;
+mod limits;
 mod name;
 mod op;
 mod registers;
@@ -29,6 +30,11 @@ pub use encoding::encode;
 pub use fits::board_fits;
 pub use form_laws::{
     claims_never_turn_back, one_claimant, parts_are_named, ways_end, well_formed_is_named,
+};
+pub use limits::{
+    MOST_AGENTS, MOST_BRIDGES, MOST_CHILDREN, MOST_DELAYED, MOST_DWORDS, MOST_IN_FLIGHT,
+    MOST_OFFERS, MOST_OPENINGS, MOST_OPS, MOST_PLANS, MOST_PORTS, MOST_POSTED, MOST_STANDING,
+    MOST_TRIES, MOST_WAITING, REQUEST_LINES, ROOM_OF_A_TURN, limits_fit,
 };
 pub use name::Name;
 pub use op::Op;

@@ -8,6 +8,7 @@ use Rattle.pci_command.specs.declared.command.Space.{Space}
 use Rattle.pci_command.specs.declared.command.Space.TheVariants.{Mem, Io, Cfg}
 use Rattle.pci_command.specs.declared.phases.Phase.{Phase}
 use Rattle.pci_command.specs.Command.{space_of}
+use Rattle.board_model.specs.Limits.{most_posted, most_delayed, most_dwords, most_tries}
 use Rattle.board_model.specs.declared.bridge.Window.{Window}
 use Rattle.board_model.specs.declared.agents.Range.{Range}
 use Rattle.board_model.specs.declared.board.Planned.{Planned}
@@ -18,7 +19,7 @@ use Rattle.board_statements.specs.declared.statement.Statement.TheVariants.{NewB
 use Rattle.board_statements.specs.Words.{Reader, ◌>>=◌, ◌>>◌, give, one_word, choice, decimal, decimal_of, fixed, hex, hex_of, name, long, long_of, data_word, data_word_of, header_bytes, header_of}
 use Rattle.board_statements.specs.Bridges.{base_limit, window, depth, abort_mode, bridge_form, header_form}
 use Rattle.board_statements.specs.Targets.{is_wide_in, space_word, space_of_word, target_form, id_form, stall_form, burst_form, range_form, claim_form, abort_form, opening_form}
-use Rattle.board_statements.specs.Masters.{master_form, read_form, data_words, other_words, at_most_eight, burst_words, burst_write_form, port_write_form, register_read_form, register_write_form, poll_form, direction_of_word, planned_form, discard_form, drop_form}
+use Rattle.board_statements.specs.Masters.{master_form, read_form, data_words, other_words, as_many, burst_words, burst_write_form, port_write_form, register_read_form, register_write_form, poll_form, direction_of_word, planned_form, discard_form, drop_form}
 use Rattle.board_parser.proofs.ReaderLemmas.{Yields, on-ok, rest-ok, word-ok, give-ok, yields-give, yields-word, yields-choice, yields-optional}
 use Rattle.board_parser.proofs.WordKindLemmas.{part-ok, hex-below, narrow-below, long-below, decimal-within, decimal-most, phase-formed, header-bytes, space-of-target}
 
@@ -67,11 +68,11 @@ window-ends word wide end below =
     yields-optional word None (choice (codes "none") (give None) (base_limit wide)) (Ends end) refl
     (yields-choice (codes "none") (give None) (base_limit wide) (Ends end) (yields-give None (Ends end) refl) (limit-ends wide end below))
 
-depth-within : (word : List ℕ) → Yields (depth word) (λ n. is_within 1 8 n ≡ true)
+depth-within : (word : List ℕ) (most : ℕ) → is_within 1 most 4 ≡ true → Yields (depth word most) (λ n. is_within 1 most n ≡ true)
 unfolding depth
-depth-within word =
-    yields-optional word 4 (decimal 1 8) (λ n. is_within 1 8 n ≡ true) refl
-    (yields-word (decimal_of 1 8) (λ n. is_within 1 8 n ≡ true) (decimal-within 1 8))
+depth-within word most usual =
+    yields-optional word 4 (decimal 1 most) (λ n. is_within 1 most n ≡ true) usual
+    (yields-word (decimal_of 1 most) (λ n. is_within 1 most n ≡ true) (decimal-within 1 most))
 
 abbrev IsFormed : Statement → Type 0
 IsFormed statement = is_formed statement ≡ true
@@ -79,21 +80,21 @@ IsFormed statement = is_formed statement ≡ true
 -- the bridge that the last steps of its line give
 abbrev bridge_end : (bus parent device last : ℕ) (mem pref io : Option Window) → Reader Statement
 bridge_end bus parent device last mem pref io = do
-  posted ← depth (codes "posted")
-  delayed ← depth (codes "delayed")
+  posted ← depth (codes "posted") most_posted
+  delayed ← depth (codes "delayed") most_delayed
   mode ← abort_mode
   give (NewBridge (record { bus = bus; parent = parent; device = device; last = last; mem = mem; pref = pref; io = io; posted = posted; delayed = delayed; mode = mode }))
 
 bridge_end-formed : (bus parent device last : ℕ) (mem pref io : Option Window) → nat_le 1 bus ≡ true → nat_le device 31 ≡ true → Ends (2 ^ 32) mem → Ends (2 ^ 64) pref → Ends (2 ^ 32) io → (words : Words) (read : Statement × Words) → bridge_end bus parent device last mem pref io words ≡ Ok read → IsFormed (read.0)
 bridge_end-formed bus parent device last mem pref io some in_range low high port words read h =
-    let posted = on-ok (depth (codes "posted") words) _ read h in
-    let delayed = on-ok (depth (codes "delayed") (posted.0.1)) _ read posted.1.1 in
+    let posted = on-ok (depth (codes "posted") most_posted words) _ read h in
+    let delayed = on-ok (depth (codes "delayed") most_delayed (posted.0.1)) _ read posted.1.1 in
     let mode = on-ok (abort_mode (delayed.0.1)) _ read delayed.1.1 in
     let is = give-ok (NewBridge (record { bus = bus; parent = parent; device = device; last = last; mem = mem; pref = pref; io = io; posted = posted.0.0; delayed = delayed.0.0; mode = mode.0.0 })) (mode.0.1) read mode.1.1 in
     subst IsFormed is
     (and_from _ _ (and_from _ _ (and_from _ _ (and_from _ _ (and_from _ _ (and_from _ _ some in_range)
-    ((depth-within (codes "posted")).at words posted.0 posted.1.0))
-    ((depth-within (codes "delayed")).at (posted.0.1) delayed.0 delayed.1.0)) low) high) port)
+    ((depth-within (codes "posted") most_posted refl).at words posted.0 posted.1.0))
+    ((depth-within (codes "delayed") most_delayed refl).at (posted.0.1) delayed.0 delayed.1.0)) low) high) port)
 
 abbrev bridge_windows : (wide : Bool) (bus parent device last : ℕ) → Reader Statement
 bridge_windows wide bus parent device last = do
@@ -142,14 +143,14 @@ unfolding header_form
 header-formed words read h =
     let device = on-ok (decimal 0 31 words) _ read h in
     let bytes = on-ok (header_bytes (device.0.1)) _ read device.1.1 in
-    let posted = on-ok (depth (codes "posted") (bytes.0.1)) _ read bytes.1.1 in
-    let delayed = on-ok (depth (codes "delayed") (posted.0.1)) _ read posted.1.1 in
+    let posted = on-ok (depth (codes "posted") most_posted (bytes.0.1)) _ read bytes.1.1 in
+    let delayed = on-ok (depth (codes "delayed") most_delayed (posted.0.1)) _ read posted.1.1 in
     let is = give-ok _ (delayed.0.1) read delayed.1.1 in
     subst IsFormed is
     (and_from _ _ (and_from _ _ (and_from _ _
     (most-read 0 31 words device.0 device.1.0)
-    ((depth-within (codes "posted")).at (bytes.0.1) posted.0 posted.1.0))
-    ((depth-within (codes "delayed")).at (posted.0.1) delayed.0 delayed.1.0))
+    ((depth-within (codes "posted") most_posted refl).at (bytes.0.1) posted.0 posted.1.0))
+    ((depth-within (codes "delayed") most_delayed refl).at (posted.0.1) delayed.0 delayed.1.0))
     (word-ok header_of (λ bs. list_all is_byte bs ≡ true) header-bytes (device.0.1) bytes.0 bytes.1.0))
 
 -- Targets.
@@ -183,9 +184,9 @@ stall-formed words read h =
 pub burst-formed : (words : Words) (read : Statement × Words) → burst_form words ≡ Ok read → IsFormed (read.0)
 unfolding burst_form
 burst-formed words read h =
-    let phases = on-ok (decimal 1 8 words) _ read h in
+    let phases = on-ok (decimal 1 most_dwords words) _ read h in
     let is = give-ok _ (phases.0.1) read phases.1.1 in
-    subst IsFormed is (decimal-read 1 8 words phases.0 phases.1.0)
+    subst IsFormed is (decimal-read 1 most_dwords words phases.0 phases.1.0)
 
 -- a number of the space is the size of a range there
 size-by : (wide : Bool) (space : Space) → is_target_space space ≡ true → (word : List ℕ) (n : ℕ) → long_of (is_wide_in wide space) word ≡ Ok n → is_size space n ≡ true
@@ -306,13 +307,13 @@ length-few (suc n) (phase ∷ phases) = let fewer = length-few n phases in omega
 
 -- one to eight data words
 pub record IsBurst (phases : List Phase) : Type 0 where
-  pub count : is_within 1 8 (length phases) ≡ true
+  pub count : is_within 1 most_dwords (length phases) ≡ true
   pub formed : list_all is_well_formed_phase phases ≡ true
 
-burst-of : (first : Phase) (others : List Phase) → is_well_formed_phase first ≡ true → list_all is_well_formed_phase others ≡ true → IsBurst (take 8 (first ∷ others))
+burst-of : (first : Phase) (others : List Phase) → is_well_formed_phase first ≡ true → list_all is_well_formed_phase others ≡ true → IsBurst (take most_dwords (first ∷ others))
 burst-of first others one all = record {
   count = let few = length-few 7 others in and_from _ _ (le-leb 1 (suc (length (take 7 others))) (omega arith)) (le-leb (suc (length (take 7 others))) 8 (omega (arith, few)));
-  formed = all-take 8 (first ∷ others) (and_from _ _ one all);
+  formed = all-take most_dwords (first ∷ others) (and_from _ _ one all);
 }
 
 burst-read : (words : Words) (read : (List Phase × Bool) × Words) → burst_words words ≡ Ok read → IsBurst (read.0.0)
@@ -320,7 +321,7 @@ unfolding burst_words
 burst-read words read h =
     let first = on-ok (data_word words) _ read h in
     let others = on-ok (other_words (first.0.1)) _ read first.1.1 in
-    let is = give-ok (at_most_eight (first.0.0 ∷ others.0.0)) (others.0.1) read others.1.1 in
+    let is = give-ok (as_many (first.0.0 ∷ others.0.0)) (others.0.1) read others.1.1 in
     let P : (List Phase × Bool) → Type 0 = λ burst. IsBurst (burst.0) in
     subst P is (burst-of (first.0.0) (others.0.0) (phase-read words first.0 first.1.0)
     (phases-formed (first.0.1) (others.0.0) (rest-ok (data_words (first.0.1)) [] others.0 others.1.0)))
@@ -377,12 +378,12 @@ poll-formed wide space named words read h =
     let address = on-ok (long (is_wide_in wide space) words) _ read h in
     let mask = on-ok (hex 8 (address.0.1)) _ read address.1.1 in
     let value = on-ok (hex 8 (mask.0.1)) _ read mask.1.1 in
-    let tries = on-ok (decimal 1 65536 (value.0.1)) _ read value.1.1 in
+    let tries = on-ok (decimal 1 most_tries (value.0.1)) _ read value.1.1 in
     let is = give-ok _ (tries.0.1) read tries.1.1 in
     subst IsFormed is
     (and_from _ _
     (word-ok (long_of (is_wide_in wide space)) (λ n. is_address space n ≡ true) (address-by wide space named) words address.0 address.1.0)
-    (decimal-read 1 65536 (value.0.1) tries.0 tries.1.0))
+    (decimal-read 1 most_tries (value.0.1) tries.0 tries.1.0))
 
 planned-formed : (words : Words) (read : Planned × Words) → planned_form words ≡ Ok read → is_well_formed_plan (read.0) ≡ true
 unfolding planned_form

@@ -1,6 +1,7 @@
 -- `target NAME on B dev D` and the lines that describe it.
 use Rattle.std.specs.Prelude.{ℕ, List, [], ◌∷◌, ◌++◌, map, codes, ◌==◌, ◌&&◌, if◌then◌else◌}
 use Rattle.std.specs.Fmt.{decimal}
+use Rattle.board_model.specs.Limits.{most_dwords}
 use Rattle.board_model.specs.declared.agents.Range.{Range}
 use Rattle.board_model.specs.declared.agents.Opening.{Opening}
 use Rattle.board_model.specs.declared.agents.Target.{Target}
@@ -23,9 +24,9 @@ id_lines target =
 abbrev pub stall_lines : ℕ → List Line
 stall_lines stalls = if stalls == 0 then [] else (codes "stall" ∷ decimal stalls ∷ []) ∷ []
 
--- `burst K`, left out if 8
+-- `burst K`, left out if it is the most
 abbrev pub burst_lines : ℕ → List Line
-burst_lines burst = if burst == 8 then [] else (codes "burst" ∷ decimal burst ∷ []) ∷ []
+burst_lines burst = if burst == most_dwords then [] else (codes "burst" ∷ decimal burst ∷ []) ∷ []
 
 -- `range SPACE BASE SIZE`, and `abort` likewise
 abbrev pub range_line : List ℕ → Range → Line

@@ -6,7 +6,7 @@ ghost use Rattle.board_printer.specs.Targets.{range_line, opening_line, target_l
 
 use crate::spaces::space_word;
 use crate::{Address, HexHalf, HexWord};
-use board_model::{Opening, Range, Target};
+use board_model::{MOST_DWORDS, Opening, Range, Target};
 use std::alloc::AllocError;
 
 /// The lines of the targets, in order.
@@ -81,7 +81,7 @@ fn print_burst(text: &mut String, burst: u8) -> Result<(), AllocError>
     ensures { OnOk result
         (string_bytes text.new ≡ string_bytes text.old ++ text_of (burst_lines burst)) }
 {
-    if burst == 8 {
+    if usize::from(burst) == MOST_DWORDS {
         return Ok(());
     }
     writeln!(text, "burst {burst}")

@@ -3,6 +3,7 @@ use Rattle.std.proofs.Common.{◌≡◌, ℕ, ◌+◌, ◌^◌, ◌≤◌, Bool,
 use Rattle.std.specs.Prelude.{◌==◌, nat_le}
 use Rattle.std.specs.List.{list_all, list_any, AllByRecursion}
 use Rattle.std.proofs.lemmas.Bool.{and_from, or_from, not_from_true, lt-leb, le-leb, leb-true, eq-eqb}
+use Rattle.board_model.specs.Limits.{most_bridges, most_children}
 use Rattle.board_model.specs.declared.bridge.Window.{Window}
 use Rattle.board_model.specs.declared.bridge.Bridge.{Bridge}
 use Rattle.board_model.specs.declared.board.Board.{Board}
@@ -25,7 +26,8 @@ window_by unit end (Some window) h =
     let is = Window-parts unit end window h in
     (and_from _ _ is.base is.limit, le-leb _ _ is.ordered)
 
-bridge_adds : (wide : Bool) (board : Board) (bridge : Bridge) → is_well_formed_bridge bridge ≡ true → list_any (has_bus bridge.bus) board.bridges ≡ false → length board.bridges + 1 ≤ 31 → children_on board bridge.parent + 1 ≤ 8 → add_bridge wide board bridge ≡ Ok (draft_of wide (record board { bridges = board.bridges ++ bridge ∷ [] }))
+bridge_adds : (wide : Bool) (board : Board) (bridge : Bridge) → is_well_formed_bridge bridge ≡ true → list_any (has_bus bridge.bus) board.bridges ≡ false
+    → length board.bridges + 1 ≤ most_bridges → children_on board bridge.parent + 1 ≤ most_children → add_bridge wide board bridge ≡ Ok (draft_of wide (record board { bridges = board.bridges ++ bridge ∷ [] }))
 bridge_adds wide board bridge formed apart fewer room =
     let f = Bridge-parts bridge formed in
     let mem = window_by (2 ^ 20) (2 ^ 32) bridge.mem f.mem in
@@ -33,8 +35,8 @@ bridge_adds wide board bridge formed apart fewer room =
     let io = window_by (2 ^ 12) (2 ^ 32) bridge.io f.io in
     let whole : are_windows_whole bridge ≡ true = and_from _ _ (and_from _ _ mem.0 pref.0) io.0 in
     let ordered : are_windows_ordered bridge ≡ true = and_from _ _ (and_from _ _ mem.1 pref.1) io.1 in
-    let few : nat_le 31 (length board.bridges) ≡ false = lt-leb _ _ (omega arith) in
-    let free : nat_le 8 (children_on board bridge.parent) ≡ false = lt-leb _ _ (omega arith) in
+    let few : nat_le most_bridges (length board.bridges) ≡ false = lt-leb _ _ (omega arith) in
+    let free : nat_le most_children (children_on board bridge.parent) ≡ false = lt-leb _ _ (omega arith) in
     skip _ _ _ (not_from_true _ whole) ∙ skip _ _ _ (not_from_true _ ordered) ∙ skip _ _ _ apart ∙ skip _ _ _ (or_from _ _ few free)
 
 pub bridge_step : (wide : Bool) (board : Board) → IsWellFormed board → AllByRecursion BridgeFits board.bridges → (wide || list_all is_short_bridge board.bridges) ≡ true
@@ -45,10 +47,10 @@ bridge_step wide board parts fits may done bridge rest is =
     let after = so_far (done ++ bridge ∷ []) [] [] [] [] in
     let all = length_of done bridge rest board.bridges is in
     let most = parts.bridges_fit in
-    let below = leb-true _ _ (all_of (λ (b : Bridge). nat_le (children_on board b.parent) 8) done bridge rest board.bridges is parts.few.bridges) in
+    let below = leb-true _ _ (all_of (λ (b : Bridge). nat_le (children_on board b.parent) most_children) done bridge rest board.bridges is parts.few.bridges) in
     let beside = count_of (λ (b : Bridge). b.parent == bridge.parent) done bridge rest board.bridges is (eq-eqb _ _ refl) in
-    let fewer : length done + 1 ≤ 31 = omega (arith, all, most) in
-    let room : children_on before bridge.parent + 1 ≤ 8 = omega (arith, below, beside) in
+    let fewer : length done + 1 ≤ most_bridges = omega (arith, all, most) in
+    let room : children_on before bridge.parent + 1 ≤ most_children = omega (arith, below, beside) in
     let added = bridge_adds wide before bridge formed (numbered_of done bridge rest board.bridges is parts.numbered_apart) fewer room in
     leads-line wide (bridge_line bridge) (NewBridge bridge) (Of wide before) (Of wide after)
     (bridge_law wide bridge (each_of BridgeFits done bridge rest board.bridges is fits) formed (may_of wide is_short_bridge done bridge rest board.bridges is may))

@@ -7,6 +7,7 @@ use Rattle.std.proofs.lemmas.Bool.{and_parts, and_from, not_from_true, lt-leb, l
 use Rattle.list_facts.specs.Lists.{total}
 use Rattle.pci_command.specs.declared.command.Space.{Space}
 use Rattle.pci_command.specs.declared.command.Space.TheVariants.{Mem, Io, Cfg}
+use Rattle.board_model.specs.Limits.{most_dwords, most_openings}
 use Rattle.board_model.specs.declared.agents.Range.{Range}
 use Rattle.board_model.specs.declared.agents.Opening.{Opening}
 use Rattle.board_model.specs.declared.agents.Target.{Target}
@@ -73,10 +74,10 @@ nothing wide board before after same =
     (λ draft is. is ∙ ap (λ (t : Target). holding wide board (OfTarget t)) same)
 
 pub id_leads : (wide : Bool) (board : Board) (target : Target) → target.vendor < 2 ^ 16 → target.model < 2 ^ 16
-    → Leads (Has wide board (part_of target 0x1234 1 0 8 [] [] [])) (id_lines target) (Has wide board (part_of target target.vendor target.model 0 8 [] [] []))
+    → Leads (Has wide board (part_of target 0x1234 1 0 most_dwords [] [] [])) (id_lines target) (Has wide board (part_of target target.vendor target.model 0 most_dwords [] [] []))
 id_leads wide board target of_vendor of_model =
-    let before = part_of target 0x1234 1 0 8 [] [] [] in
-    let after = part_of target target.vendor target.model 0 8 [] [] [] in
+    let before = part_of target 0x1234 1 0 most_dwords [] [] [] in
+    let after = part_of target target.vendor target.model 0 most_dwords [] [] [] in
     let line : Line = codes "id" ∷ half_text target.vendor ∷ half_text target.model ∷ [] in
     let test : Bool = target.vendor == 0x1234 && target.model == 1 in
     let P : Bool → Type 0 = λ b. test ≡ b → Leads (Has wide board before) (cond b [] (line ∷ [])) (Has wide board after) in
@@ -85,36 +86,36 @@ id_leads wide board target of_vendor of_model =
           let parts = and_parts (target.vendor == 0x1234) (target.model == 1) plain in
           let v : 0x1234 ≡ target.vendor = sym (eqb-true _ _ parts.0) in
           let m : 1 ≡ target.model = sym (eqb-true _ _ parts.1) in
-          nothing wide board before after (ap (λ (n : ℕ). part_of target n 1 0 8 [] [] []) v ∙ ap (λ (n : ℕ). part_of target target.vendor n 0 8 [] [] []) m)
+          nothing wide board before after (ap (λ (n : ℕ). part_of target n 1 0 most_dwords [] [] []) v ∙ ap (λ (n : ℕ). part_of target target.vendor n 0 most_dwords [] [] []) m)
       | false ↦ λ other.
           detail wide board line (Identifies target.vendor target.model) (set_identity target.vendor target.model) before after (id_law wide target.vendor target.model of_vendor of_model) refl refl
     ]) refl
 
 pub stall_leads : (wide : Bool) (board : Board) (target : Target) → IsWellFormedTarget target
-    → Leads (Has wide board (part_of target target.vendor target.model 0 8 [] [] [])) (stall_lines target.stalls) (Has wide board (part_of target target.vendor target.model target.stalls 8 [] [] []))
+    → Leads (Has wide board (part_of target target.vendor target.model 0 most_dwords [] [] [])) (stall_lines target.stalls) (Has wide board (part_of target target.vendor target.model target.stalls most_dwords [] [] []))
 stall_leads wide board target parts =
-    let before = part_of target target.vendor target.model 0 8 [] [] [] in
-    let after = part_of target target.vendor target.model target.stalls 8 [] [] [] in
+    let before = part_of target target.vendor target.model 0 most_dwords [] [] [] in
+    let after = part_of target target.vendor target.model target.stalls most_dwords [] [] [] in
     let line : Line = codes "stall" ∷ decimal target.stalls ∷ [] in
     let P : Bool → Type 0 = λ b. (target.stalls == 0) ≡ b → Leads (Has wide board before) (cond b [] (line ∷ [])) (Has wide board after) in
     (elim (target.stalls == 0) as P [
       | true ↦ λ plain.
           let s : 0 ≡ target.stalls = sym (eqb-true _ _ plain) in
-          nothing wide board before after (ap (λ (n : ℕ). part_of target target.vendor target.model n 8 [] [] []) s)
+          nothing wide board before after (ap (λ (n : ℕ). part_of target target.vendor target.model n most_dwords [] [] []) s)
       | false ↦ λ other.
           detail wide board line (Stalls target.stalls) (set_stalls target.stalls) before after (stall_law wide target.stalls parts.stalls) refl refl
     ]) refl
 
 pub burst_leads : (wide : Bool) (board : Board) (target : Target) → IsWellFormedTarget target
-    → Leads (Has wide board (part_of target target.vendor target.model target.stalls 8 [] [] [])) (burst_lines target.burst) (Has wide board (part_of target target.vendor target.model target.stalls target.burst [] [] []))
+    → Leads (Has wide board (part_of target target.vendor target.model target.stalls most_dwords [] [] [])) (burst_lines target.burst) (Has wide board (part_of target target.vendor target.model target.stalls target.burst [] [] []))
 burst_leads wide board target parts =
-    let before = part_of target target.vendor target.model target.stalls 8 [] [] [] in
+    let before = part_of target target.vendor target.model target.stalls most_dwords [] [] [] in
     let after = part_of target target.vendor target.model target.stalls target.burst [] [] [] in
     let line : Line = codes "burst" ∷ decimal target.burst ∷ [] in
-    let P : Bool → Type 0 = λ b. (target.burst == 8) ≡ b → Leads (Has wide board before) (cond b [] (line ∷ [])) (Has wide board after) in
-    (elim (target.burst == 8) as P [
+    let P : Bool → Type 0 = λ b. (target.burst == most_dwords) ≡ b → Leads (Has wide board before) (cond b [] (line ∷ [])) (Has wide board after) in
+    (elim (target.burst == most_dwords) as P [
       | true ↦ λ plain.
-          let s : 8 ≡ target.burst = sym (eqb-true _ _ plain) in
+          let s : most_dwords ≡ target.burst = sym (eqb-true _ _ plain) in
           nothing wide board before after (ap (λ (n : ℕ). part_of target target.vendor target.model target.stalls n [] [] []) s)
       | false ↦ λ other.
           detail wide board line (Bursts target.burst) (set_burst target.burst) before after (burst_law wide target.burst parts.burst.from parts.burst.to) refl refl
@@ -200,7 +201,7 @@ opening_step wide board target parts fit may done opening rest is =
     let short = may_of wide (λ (o : Opening). is_short o.address) done opening rest target.openings is may in
     let all = length_of done opening rest target.openings is in
     let most = parts.few_openings in
-    let few : nat_le 256 (length done) ≡ false = lt-leb _ _ (omega (arith, all, most)) in
+    let few : nat_le most_openings (length done) ≡ false = lt-leb _ _ (omega (arith, all, most)) in
     let did : add_opening opening before ≡ Ok after = skip _ _ _ (not_from_true _ (aligned_by opening.space opening.address formed)) ∙ skip _ _ _ few in
     detail wide board (opening_line opening) (Opens opening) (add_opening opening) before after
     (opening_law wide opening (each_of OpeningFits done opening rest target.openings is fit) formed short) refl did

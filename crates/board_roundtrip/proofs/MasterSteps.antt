@@ -5,6 +5,7 @@ use Rattle.std.specs.List.{list_all, AllByRecursion}
 use Rattle.std.proofs.lemmas.Bool.{leb-true, eq-eqb}
 use Rattle.list_facts.specs.Lists.{total}
 use Rattle.list_facts.proofs.TotalLemmas.{total-push}
+use Rattle.board_model.specs.Limits.{most_agents, most_ops, most_tries}
 use Rattle.board_model.specs.declared.op.Op.{Op}
 use Rattle.board_model.specs.declared.agents.Master.{Master}
 use Rattle.board_model.specs.declared.board.Board.{Board}
@@ -52,7 +53,8 @@ begins wide board master fits none =
       holds = refl;
     })
 
-op_step : (wide : Bool) (board : Board) (master : Master) → AllByRecursion OpFits master.ops → is_well_formed_master master ≡ true → operations_in board.masters + total tries_of master.ops ≤ 65536 → (wide || list_all is_short_op master.ops) ≡ true
+op_step : (wide : Bool) (board : Board) (master : Master) → AllByRecursion OpFits master.ops → is_well_formed_master master ≡ true
+    → operations_in board.masters + total tries_of master.ops ≤ most_tries → (wide || list_all is_short_op master.ops) ≡ true
     → Steps (λ op. op_line op ∷ []) (λ done. Runs wide board (program_of master done)) master.ops
 op_step wide board master fits formed fewer may done op rest is =
     let before = program_of master done in
@@ -61,11 +63,11 @@ op_step wide board master fits formed fewer may done op rest is =
     let good = all_of is_well_formed_op done op rest master.ops is parts.ops in
     let most = parts.few in
     let all = length_of done op rest master.ops is in
-    let few : length done + 1 ≤ 1024 = omega (arith, most, all) in
+    let few : length done + 1 ≤ most_ops = omega (arith, most, all) in
     let count = operations_in (board.masters ++ before ∷ []) in
     let so : count ≡ operations_in board.masters + total tries_of done = total-push (λ (m : Master). total tries_of m.ops) board.masters before in
     let sum = total_of tries_of done op rest master.ops is in
-    let within : count + tries_of op ≤ 65536 = omega (arith, fewer, so, sum) in
+    let within : count + tries_of op ≤ most_tries = omega (arith, fewer, so, sum) in
     let added : add_op count op false before ≡ Ok after = op_adds count op before good few within in
     let did : does (holding wide board (OfMaster before)) op false ≡ Ok (holding wide board (OfMaster after)) =
     ap (λ (r : Result Master LineFault). r >>= (λ m. Ok (holding wide board (OfMaster m)))) added in
@@ -81,7 +83,8 @@ op_step wide board master fits formed fewer may done op rest is =
 abbrev with_master : Board → Master → Board
 with_master board master = record board { masters = board.masters ++ master ∷ [] }
 
-master_leads : (wide : Bool) (board : Board) (master : Master) → ProgramFits master → is_well_formed_master master ≡ true → operations_in board.masters + total tries_of master.ops ≤ 65536 → (wide || list_all is_short_op master.ops) ≡ true → agent_fault board master.name master.bus ≡ None
+master_leads : (wide : Bool) (board : Board) (master : Master) → ProgramFits master → is_well_formed_master master ≡ true
+    → operations_in board.masters + total tries_of master.ops ≤ most_tries → (wide || list_all is_short_op master.ops) ≡ true → agent_fault board master.name master.bus ≡ None
     → Leads (Of wide board) (master_lines master) (Of wide (with_master board master))
 master_leads wide board master fits formed fewer may none =
     let ops = leads-map op_line (λ done. Runs wide board (program_of master done)) master.ops (op_step wide board master fits.ops formed fewer may) in
@@ -93,12 +96,12 @@ pub master_step : (wide : Bool) (board : Board) → IsWellFormed board → AllBy
     → Steps master_lines (λ done. Of wide (so_far board.bridges board.targets done [] [])) board.masters
 master_step wide board parts fits may done master rest is =
     let formed = all_of is_well_formed_master done master rest board.masters is parts.masters in
-    let below = leb-true _ _ (all_of (λ (m : Master). nat_le (agents_on board m.bus) 8) done master rest board.masters is parts.few.masters) in
+    let below = leb-true _ _ (all_of (λ (m : Master). nat_le (agents_on board m.bus) most_agents) done master rest board.masters is parts.few.masters) in
     let beside = count_of (λ (m : Master). m.bus == master.bus) done master rest board.masters is (eq-eqb _ _ refl) in
     let before = so_far board.bridges board.targets done [] [] in
-    let room : agents_on before master.bus + 1 ≤ 8 = omega (arith, below, beside) in
+    let room : agents_on before master.bus + 1 ≤ most_agents = omega (arith, below, beside) in
     let sum = total_of (λ (m : Master). total tries_of m.ops) done master rest board.masters is in
     let most = parts.operations in
-    let fewer : operations_in done + total tries_of master.ops ≤ 65536 = omega (arith, sum, most) in
+    let fewer : operations_in done + total tries_of master.ops ≤ most_tries = omega (arith, sum, most) in
     master_leads wide before master (each_of ProgramFits done master rest board.masters is fits) formed fewer (may_of wide (λ (m : Master). list_all is_short_op m.ops) done master rest board.masters is may)
     (no_agent_fault before master.name master.bus (beside_of board.targets done master rest board.masters is parts.targets_named_apart) (masters_of done master rest board.masters is parts.masters_named_apart) room)

@@ -5,6 +5,7 @@ use Rattle.std.proofs.lemmas.Bool.{and_parts, or_from, not_from_true, lt-leb, le
 use Rattle.pci_command.specs.declared.command.Space.{Space}
 use Rattle.pci_command.specs.declared.command.Space.TheVariants.{Mem, Io, Cfg}
 use Rattle.pci_command.specs.declared.phases.Phase.{Phase}
+use Rattle.board_model.specs.Limits.{most_dwords, most_ops, most_tries}
 use Rattle.board_model.specs.declared.op.Op.{Op}
 use Rattle.board_model.specs.declared.op.Op.TheVariants.{Read, Write, CfgRead, CfgWrite, Poll}
 use Rattle.board_model.specs.declared.agents.Master.{Master}
@@ -29,10 +30,10 @@ aligned (Read command address) formed = read_by address (read_space command) for
 aligned (Write command address phases) formed = write_by address phases (write_space command) formed
 aligned (CfgRead bus device register) formed = refl
 aligned (CfgWrite bus device register phase) formed = refl
-aligned (Poll space address mask value tries) formed = aligned_by space address ((and_parts (is_dword_in space address) (is_within 1 65536 tries) formed).0)
+aligned (Poll space address mask value tries) formed = aligned_by space address ((and_parts (is_dword_in space address) (is_within 1 most_tries tries) formed).0)
 
 burst_by : (space : Space) (address phases : ℕ) → (address % 4 == 0) ≡ true → is_burst_in space address phases ≡ true → nat_lt 64 (address % 64 + 4 * phases) ≡ false
-burst_by Mem address phases whole formed = le-ltb _ _ (leb-true _ _ ((and_parts (is_within 1 8 phases) (nat_le (address % 64 + 4 * phases) 64) formed).1))
+burst_by Mem address phases whole formed = le-ltb _ _ (leb-true _ _ ((and_parts (is_within 1 most_dwords phases) (nat_le (address % 64 + 4 * phases) 64) formed).1))
 burst_by Io address phases whole formed =
     let one = eqb-true phases 1 formed in
     let four = eqb-true (address % 4) 0 whole in
@@ -52,8 +53,9 @@ within (CfgRead bus device register) formed = refl
 within (CfgWrite bus device register phase) formed = refl
 within (Poll space address mask value tries) formed = refl
 
-pub op_adds : (before : ℕ) (op : Op) (master : Master) → is_well_formed_op op ≡ true → length master.ops + 1 ≤ 1024 → before + tries_of op ≤ 65536 → add_op before op false master ≡ Ok (record master { ops = master.ops ++ op ∷ [] })
+pub op_adds : (before : ℕ) (op : Op) (master : Master) → is_well_formed_op op ≡ true → length master.ops + 1 ≤ most_ops → before + tries_of op ≤ most_tries
+    → add_op before op false master ≡ Ok (record master { ops = master.ops ++ op ∷ [] })
 op_adds before op master formed few fewer =
-    let own : nat_le 1024 (length master.ops) ≡ false = lt-leb _ _ (omega arith) in
-    let all : nat_lt 65536 (before + tries_of op) ≡ false = le-ltb _ _ fewer in
+    let own : nat_le most_ops (length master.ops) ≡ false = lt-leb _ _ (omega arith) in
+    let all : nat_lt most_tries (before + tries_of op) ≡ false = le-ltb _ _ fewer in
     skip _ _ _ (not_from_true _ (aligned op formed)) ∙ skip _ _ _ (within op formed) ∙ skip _ _ _ (or_from _ _ own all)

@@ -3,6 +3,7 @@ use Rattle.std.proofs.Common.{◌≡◌, Bool, false, [], ◌∷◌, ◌++◌, l
 use Rattle.std.specs.Prelude.{codes, nat_le}
 use Rattle.std.specs.List.{AllByRecursion}
 use Rattle.std.proofs.lemmas.Bool.{lt-leb}
+use Rattle.board_model.specs.Limits.{most_plans}
 use Rattle.board_model.specs.declared.board.Board.{Board}
 use Rattle.board_model.specs.WellFormed.{is_well_formed_plan, IsWellFormed}
 use Rattle.board_printer.specs.Boards.{planned_line}
@@ -22,7 +23,7 @@ discard_step wide board parts fits done planned rest is =
     let after = so_far board.bridges board.targets board.masters (done ++ planned ∷ []) [] in
     let all = length_of done planned rest board.discards is in
     let most = parts.discards_fit in
-    let few : nat_le 1024 (length done) ≡ false = lt-leb _ _ (omega (arith, all, most)) in
+    let few : nat_le most_plans (length done) ≡ false = lt-leb _ _ (omega (arith, all, most)) in
     let added : add_discard wide before planned ≡ Ok (draft_of wide after) = skip _ _ _ few in
     leads-line wide (planned_line (codes "discard") planned) (Discards planned) (Of wide before) (Of wide after)
     (discard_law wide planned (each_of PlannedFits done planned rest board.discards is fits) (all_of is_well_formed_plan done planned rest board.discards is parts.discards))
@@ -40,7 +41,7 @@ drop_step wide board parts fits done planned rest is =
     let after = so_far board.bridges board.targets board.masters board.discards (done ++ planned ∷ []) in
     let all = length_of done planned rest board.drops is in
     let most = parts.drops_fit in
-    let few : nat_le 1024 (length done) ≡ false = lt-leb _ _ (omega (arith, all, most)) in
+    let few : nat_le most_plans (length done) ≡ false = lt-leb _ _ (omega (arith, all, most)) in
     let added : add_drop wide before planned ≡ Ok (draft_of wide after) = skip _ _ _ few in
     leads-line wide (planned_line (codes "drop") planned) (Drops planned) (Of wide before) (Of wide after)
     (drop_law wide planned (each_of PlannedFits done planned rest board.drops is fits) (all_of is_well_formed_plan done planned rest board.drops is parts.drops))

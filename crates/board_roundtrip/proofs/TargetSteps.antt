@@ -3,6 +3,7 @@ use Rattle.std.proofs.Common.{◌≡◌, ℕ, ◌+◌, ◌≤◌, Bool, true, fa
 use Rattle.std.specs.Prelude.{codes, ◌==◌, nat_le}
 use Rattle.std.specs.List.{list_all, list_any, AllByRecursion}
 use Rattle.std.proofs.lemmas.Bool.{or_from, lt-leb, leb-true, eq-eqb}
+use Rattle.board_model.specs.Limits.{most_agents, most_dwords}
 use Rattle.board_model.specs.declared.agents.Target.{Target}
 use Rattle.board_model.specs.declared.board.Board.{Board}
 use Rattle.board_model.specs.WellFormed.{IsWellFormed, is_well_formed_target, is_target_named, is_master_named, agents_on}
@@ -27,14 +28,15 @@ pass : (test : Bool) (fault : LineFault) (step : Option LineFault) → test ≡ 
 pass true fault step h = absurd (cc)
 pass false fault step h = refl
 
-pub no_agent_fault : (board : Board) (name : List ℕ) (bus : ℕ) → list_any (is_target_named name) board.targets ≡ false → list_any (is_master_named name) board.masters ≡ false → agents_on board bus + 1 ≤ 8 → agent_fault board name bus ≡ None
+pub no_agent_fault : (board : Board) (name : List ℕ) (bus : ℕ) → list_any (is_target_named name) board.targets ≡ false → list_any (is_master_named name) board.masters ≡ false
+    → agents_on board bus + 1 ≤ most_agents → agent_fault board name bus ≡ None
 no_agent_fault board name bus targets masters room =
     let unused : is_name_used board name ≡ false = or_from _ _ targets masters in
-    let free : nat_le 8 (agents_on board bus) ≡ false = lt-leb _ _ (omega arith) in
+    let free : nat_le most_agents (agents_on board bus) ≡ false = lt-leb _ _ (omega arith) in
     pass _ _ _ unused ∙ pass _ _ _ free
 
 begins : (wide : Bool) (board : Board) (target : Target) → DetailsFit target → is_well_formed_target target ≡ true → agent_fault board target.name target.bus ≡ None
-    → Leads (Of wide board) (target_line target ∷ []) (Has wide board (part_of target 0x1234 1 0 8 [] [] []))
+    → Leads (Of wide board) (target_line target ∷ []) (Has wide board (part_of target 0x1234 1 0 most_dwords [] [] []))
 begins wide board target fits formed none =
     let first = new_target target.name target.bus target.device in
     leads-line wide (target_line target) (NewTarget target.name target.bus target.device) (Of wide board) (Has wide board first) (target_law wide target fits.begins formed)
@@ -58,9 +60,9 @@ target_leads wide board target fits formed may none =
     let rest = second_may wide (list_all is_short_range target.ranges) _ may in
     let may_aborts = first_may wide (list_all is_short_range target.aborts) _ rest in
     let may_openings = second_may wide (list_all is_short_range target.aborts) _ rest in
-    let p0 = Has wide board (part_of target 0x1234 1 0 8 [] [] []) in
-    let p1 = Has wide board (part_of target target.vendor target.model 0 8 [] [] []) in
-    let p2 = Has wide board (part_of target target.vendor target.model target.stalls 8 [] [] []) in
+    let p0 = Has wide board (part_of target 0x1234 1 0 most_dwords [] [] []) in
+    let p1 = Has wide board (part_of target target.vendor target.model 0 most_dwords [] [] []) in
+    let p2 = Has wide board (part_of target target.vendor target.model target.stalls most_dwords [] [] []) in
     let p3 = Has wide board (part_of target target.vendor target.model target.stalls target.burst [] [] []) in
     let p4 = Has wide board (part_of target target.vendor target.model target.stalls target.burst target.ranges [] []) in
     let p5 = Has wide board (part_of target target.vendor target.model target.stalls target.burst target.ranges target.aborts []) in
@@ -84,9 +86,9 @@ pub target_step : (wide : Bool) (board : Board) → IsWellFormed board → AllBy
     → Steps target_lines (λ done. Of wide (so_far board.bridges done [] [] [])) board.targets
 target_step wide board parts fits may done target rest is =
     let formed = all_of is_well_formed_target done target rest board.targets is parts.targets in
-    let below = leb-true _ _ (all_of (λ (t : Target). nat_le (agents_on board t.bus) 8) done target rest board.targets is parts.few.targets) in
+    let below = leb-true _ _ (all_of (λ (t : Target). nat_le (agents_on board t.bus) most_agents) done target rest board.targets is parts.few.targets) in
     let beside = count_of (λ (t : Target). t.bus == target.bus) done target rest board.targets is (eq-eqb _ _ refl) in
     let before = so_far board.bridges done [] [] [] in
-    let room : agents_on before target.bus + 1 ≤ 8 = omega (arith, below, beside) in
+    let room : agents_on before target.bus + 1 ≤ most_agents = omega (arith, below, beside) in
     target_leads wide before target (each_of DetailsFit done target rest board.targets is fits) formed (may_of wide is_short_target done target rest board.targets is may)
     (no_agent_fault before target.name target.bus (targets_of board.masters done target rest board.targets is parts.targets_named_apart) refl room)

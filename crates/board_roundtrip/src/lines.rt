@@ -37,6 +37,7 @@ ghost use Rattle.board_model.specs.Fits.{BridgeFits, TargetFits, MasterFits, Ran
 ghost use Rattle.board_model.specs.Fits.{OpeningFits, OpFits, PlannedFits};
 ghost use Rattle.board_roundtrip.specs.words.Printed.{has_words_alone};
 ghost use Rattle.board_roundtrip.specs.lines.ReadsAs.{IsReadAs};
+ghost use Rattle.board_model.specs.Limits.{most_dwords};
 
 /// The words of a line that was printed are the words that were printed. A line ends before its
 /// newline.
@@ -70,7 +71,7 @@ pub fn targets_are_read()
         (codes "id" ∷ half_text vendor ∷ half_text model ∷ []) (Identifies vendor model) }
     ensures stall { (wide : Bool) (tokens : ℕ) → tokens ≤ 1000000 →
         IsReadAs wide (codes "stall" ∷ decimal tokens ∷ []) (Stalls tokens) }
-    ensures burst { (wide : Bool) (phases : ℕ) → 1 ≤ phases → phases ≤ 8 →
+    ensures burst { (wide : Bool) (phases : ℕ) → 1 ≤ phases → phases ≤ most_dwords →
         IsReadAs wide (codes "burst" ∷ decimal phases ∷ []) (Bursts phases) }
 {}
 

@@ -3,9 +3,10 @@ use Rattle.std.proofs.Common.{◌≡◌, ℕ, ◌<◌, ◌≤◌, Bool, true, fa
 use Rattle.std.proofs.lemmas.Bool.{lt-ltb, le-ltb}
 use Rattle.std.proofs.lemmas.List.{append-nil, length-append, take_at, take_all}
 use Rattle.pci_command.specs.declared.phases.Phase.{Phase}
+use Rattle.board_model.specs.Limits.{most_dwords}
 use Rattle.text_faults.specs.declared.board_line.LineFault.{LineFault}
 use Rattle.board_statements.specs.Words.{◌>>=◌, read_on, give, and_part, with_rest, data_word, data_word_of}
-use Rattle.board_statements.specs.Masters.{data_words, other_words, at_most_eight, burst_words}
+use Rattle.board_statements.specs.Masters.{data_words, other_words, as_many, burst_words}
 
 abbrev read_so : Phase → List (List ℕ) → Result (Phase × List (List ℕ)) LineFault
 read_so phase words = Ok (phase, words)
@@ -15,7 +16,7 @@ fails_so fault = Err fault
 
 -- what is kept of the phases so far and those that follow, up to the end of the line
 abbrev pub finish : List Phase → Bool → Result (List Phase) LineFault → Result ((List Phase × Bool) × List (List ℕ)) LineFault
-finish phases many (Ok more) = Ok ((take 8 (phases ++ more), many || ltb 8 (length (phases ++ more))), [])
+finish phases many (Ok more) = Ok ((take most_dwords (phases ++ more), many || ltb most_dwords (length (phases ++ more))), [])
 finish phases many (Err fault) = Err fault
 
 abbrev add_first : Phase → Result (List Phase) LineFault → Result (List Phase) LineFault
@@ -59,26 +60,27 @@ or_true : (many last : Bool) → last ≡ true → (many || last) ≡ true
 or_true true last is = refl
 or_true false last is = is
 
-one_past : (phases : List Phase) (many : Bool) (phase : Phase) (more : Result (List Phase) LineFault) → length phases ≡ 8 → finish phases true more ≡ finish phases many (add_first phase more)
+one_past : (phases : List Phase) (many : Bool) (phase : Phase) (more : Result (List Phase) LineFault) → length phases ≡ most_dwords
+    → finish phases true more ≡ finish phases many (add_first phase more)
 one_past phases many phase (Ok more) full =
     let sum = length-append phases (phase ∷ more) in
-    let last : ltb 8 (length (phases ++ phase ∷ more)) ≡ true = lt-ltb _ _ (omega (arith, sum)) in
-    rw (take_at phases more 8 full, take_at phases (phase ∷ more) 8 full, or_true many _ last) refl
+    let last : ltb most_dwords (length (phases ++ phase ∷ more)) ≡ true = lt-ltb _ _ (omega (arith, sum)) in
+    rw (take_at phases more most_dwords full, take_at phases (phase ∷ more) most_dwords full, or_true many _ last) refl
 one_past phases many phase (Err fault) full = refl
 
-join : (phase : Phase) (more : Result (List Phase) LineFault) → finish (phase ∷ []) false more ≡ read_on (with_rest more []) (λ others. give (at_most_eight (phase ∷ others)))
+join : (phase : Phase) (more : Result (List Phase) LineFault) → finish (phase ∷ []) false more ≡ read_on (with_rest more []) (λ others. give (as_many (phase ∷ others)))
 join phase (Ok more) = refl
 join phase (Err fault) = refl
 
 pub begins : (phase : Phase) (old new : List (List ℕ)) → data_word old ≡ read_so phase new → finish (phase ∷ []) false (data_words new) ≡ burst_words old
 unfolding burst_words
 begins phase old new read =
-    join phase (data_words new) ∙ sym (ap (λ (r : Result (Phase × List (List ℕ)) LineFault). read_on r (λ first. other_words >>= λ others. give (at_most_eight (first ∷ others)))) read)
+    join phase (data_words new) ∙ sym (ap (λ (r : Result (Phase × List (List ℕ)) LineFault). read_on r (λ first. other_words >>= λ others. give (as_many (first ∷ others)))) read)
 
 pub fails_first : (old : List (List ℕ)) (fault : LineFault) → data_word old ≡ fails_so fault → burst_words old ≡ Err fault
 unfolding burst_words
 fails_first old fault read =
-    ap (λ (r : Result (Phase × List (List ℕ)) LineFault). read_on r (λ first. other_words >>= λ others. give (at_most_eight (first ∷ others)))) read
+    ap (λ (r : Result (Phase × List (List ℕ)) LineFault). read_on r (λ first. other_words >>= λ others. give (as_many (first ∷ others)))) read
 
 pub keeps : (phases : List Phase) (many : Bool) (phase : Phase) (old new : List (List ℕ)) (total : Result ((List Phase × Bool) × List (List ℕ)) LineFault) → data_word old ≡ read_so phase new
     → finish phases many (data_words old) ≡ total → finish (phases ++ phase ∷ []) many (data_words new) ≡ total
@@ -86,7 +88,7 @@ keeps phases many phase old new total read so_far =
     one_more phases many phase (data_words new) ∙ ap (finish phases many) (sym (step old new phase read)) ∙ so_far
 
 pub leaves : (phases : List Phase) (many : Bool) (phase : Phase) (old new : List (List ℕ)) (total : Result ((List Phase × Bool) × List (List ℕ)) LineFault) → data_word old ≡ read_so phase new
-    → length phases ≡ 8 → finish phases many (data_words old) ≡ total → finish phases true (data_words new) ≡ total
+    → length phases ≡ most_dwords → finish phases many (data_words old) ≡ total → finish phases true (data_words new) ≡ total
 leaves phases many phase old new total read full so_far =
     one_past phases many phase (data_words new) full ∙ ap (finish phases many) (sym (step old new phase read)) ∙ so_far
 
@@ -101,10 +103,10 @@ or_false : (many last : Bool) → last ≡ false → (many || last) ≡ many
 or_false true last is = refl
 or_false false last is = is
 
-pub is_done : (phases : List Phase) (many : Bool) (words : List (List ℕ)) (total : Result ((List Phase × Bool) × List (List ℕ)) LineFault) → length words ≡ 0 → length phases ≤ 8
+pub is_done : (phases : List Phase) (many : Bool) (words : List (List ℕ)) (total : Result ((List Phase × Bool) × List (List ℕ)) LineFault) → length words ≡ 0 → length phases ≤ most_dwords
     → finish phases many (data_words words) ≡ total → total ≡ Ok ((phases, many), words)
 is_done phases many (word ∷ words) total none few so_far = absurd (omega arith)
 is_done phases many [] total none few so_far =
-    let short : ltb 8 (length phases) ≡ false = le-ltb _ _ few in
-    let last : finish phases many (Ok []) ≡ Ok ((phases, many), []) = rw (append-nil phases, take_all 8 phases few, or_false many _ short) refl in
+    let short : ltb most_dwords (length phases) ≡ false = le-ltb _ _ few in
+    let last : finish phases many (Ok []) ≡ Ok ((phases, many), []) = rw (append-nil phases, take_all most_dwords phases few, or_false many _ short) refl in
     sym so_far ∙ last

@@ -1,5 +1,6 @@
 -- The lines of bridges.
 use Rattle.std.specs.Prelude.{ℕ, Bool, false, ◌==◌, List, Option, Some, None, codes}
+use Rattle.board_model.specs.Limits.{most_posted, most_delayed}
 use Rattle.board_model.specs.declared.bridge.Window.{Window}
 use Rattle.board_statements.specs.declared.statement.Statement.{Statement}
 use Rattle.board_statements.specs.declared.statement.Statement.TheVariants.{NewBridge, NewHeader}
@@ -16,9 +17,9 @@ base_limit wide = do
 unfoldable pub window : List ℕ → Bool → Reader (Option Window)
 window word wide = optional word None (choice (codes "none") (give None) (base_limit wide))
 
--- a number from 1 to 8 behind `posted` or `delayed`, which may be left out: then it is 4
-unfoldable pub depth : List ℕ → Reader ℕ
-depth word = optional word 4 (decimal 1 8)
+-- a number from 1 to the most behind `posted` or `delayed`, which may be left out: then it is 4
+unfoldable pub depth : List ℕ → ℕ → Reader ℕ
+depth word most = optional word 4 (decimal 1 most)
 
 -- 0 or 1 behind `abort`, which may be left out: then it is 0
 unfoldable pub abort_mode : Reader Bool
@@ -32,8 +33,8 @@ bridge_options wide bus parent device last = do
   mem ← window (codes "mem") false
   pref ← window (codes "pref") wide
   io ← window (codes "io") false
-  posted ← depth (codes "posted")
-  delayed ← depth (codes "delayed")
+  posted ← depth (codes "posted") most_posted
+  delayed ← depth (codes "delayed") most_delayed
   mode ← abort_mode
   give (NewBridge (record { bus = bus; parent = parent; device = device; last = last; mem = mem; pref = pref; io = io; posted = posted; delayed = delayed; mode = mode }))
 
@@ -54,6 +55,6 @@ unfoldable pub header_form : Reader Statement
 header_form = do
   device ← decimal 0 31
   bytes ← header_bytes
-  posted ← depth (codes "posted")
-  delayed ← depth (codes "delayed")
+  posted ← depth (codes "posted") most_posted
+  delayed ← depth (codes "delayed") most_delayed
   give (NewHeader device bytes posted delayed)

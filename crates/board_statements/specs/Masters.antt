@@ -6,6 +6,7 @@ use Rattle.pci_command.specs.declared.command.Command.TheVariants.{IoWrite}
 use Rattle.pci_command.specs.declared.command.Space.{Space}
 use Rattle.pci_command.specs.declared.phases.Phase.{Phase}
 use Rattle.pci_command.specs.Command.{space_of}
+use Rattle.board_model.specs.Limits.{most_dwords, most_tries}
 use Rattle.board_model.specs.declared.op.Op.TheVariants.{Read, Write, CfgRead, CfgWrite, Poll}
 use Rattle.board_model.specs.declared.board.Planned.{Planned}
 use Rattle.text_faults.specs.declared.board_line.LineFault.{LineFault}
@@ -39,16 +40,16 @@ data_words (word ∷ words) =
 abbrev pub other_words : Reader (List Phase)
 other_words words = with_rest (data_words words) []
 
--- the first eight, and whether there are more
-abbrev pub at_most_eight : List Phase → List Phase × Bool
-at_most_eight phases = (take 8 phases, nat_lt 8 (length phases))
+-- as many as a burst may have, and whether there are more
+abbrev pub as_many : List Phase → List Phase × Bool
+as_many phases = (take most_dwords phases, nat_lt most_dwords (length phases))
 
 -- one data word or more, up to the end of the line
 unfoldable pub burst_words : Reader (List Phase × Bool)
 burst_words = do
   first ← data_word
   others ← other_words
-  give (at_most_eight (first ∷ others))
+  give (as_many (first ∷ others))
 
 -- ADDR WORD.. of a write in memory
 unfoldable pub burst_write_form : Bool → Command → Reader Statement
@@ -87,7 +88,7 @@ poll_form wide space = do
   address ← long (is_wide_in wide space)
   mask ← hex 8
   value ← hex 8
-  tries ← decimal 1 65536
+  tries ← decimal 1 most_tries
   give (Does (Poll space address mask value tries) false)
 
 -- `down` or `up`

@@ -3,6 +3,7 @@ use Rattle.std.specs.Prelude.{ℕ, Bool, false, List, Result, Ok, Err, codes, if
 use Rattle.std.specs.Str.{bytes_eq}
 use Rattle.pci_command.specs.declared.command.Space.{Space}
 use Rattle.pci_command.specs.declared.command.Space.TheVariants.{Mem, Io, Cfg}
+use Rattle.board_model.specs.Limits.{most_dwords}
 use Rattle.board_model.specs.declared.agents.Range.{Range}
 use Rattle.text_faults.specs.declared.board_line.LineFault.{LineFault}
 use Rattle.text_faults.specs.declared.board_line.LineFault.TheVariants.{WrongWord}
@@ -53,7 +54,7 @@ stall_form = do
 -- `burst K`
 unfoldable pub burst_form : Reader Statement
 burst_form = do
-  phases ← decimal 1 8
+  phases ← decimal 1 most_dwords
   give (Bursts phases)
 
 -- SPACE BASE SIZE behind `range` or `abort`

@@ -5,7 +5,7 @@ ghost use Rattle.board_statements.specs.Bridges.{bridge_options, bridge_form, he
 
 use crate::Statement;
 use crate::words::Words;
-use board_model::{Bridge, Window};
+use board_model::{Bridge, MOST_DELAYED, MOST_POSTED, Window};
 use text_faults::LineFault;
 
 /// `bridge B on Q dev D last S`, and then what may be left out.
@@ -37,8 +37,8 @@ fn bridge_options(
     let mem = window(words, b"mem", false)?;
     let pref = window(words, b"pref", wide)?;
     let io = window(words, b"io", false)?;
-    let posted = depth(words, b"posted")?;
-    let delayed = depth(words, b"delayed")?;
+    let posted = depth(words, b"posted", MOST_POSTED)?;
+    let delayed = depth(words, b"delayed", MOST_DELAYED)?;
     let mode = abort_mode(words)?;
     Ok(Statement::NewBridge(Bridge {
         bus,
@@ -61,8 +61,8 @@ pub fn header(words: &mut Words) -> Result<Statement, LineFault>
 {
     let device = words.decimal_byte(0, 31)?;
     let bytes = words.header()?;
-    let posted = depth(words, b"posted")?;
-    let delayed = depth(words, b"delayed")?;
+    let posted = depth(words, b"posted", MOST_POSTED)?;
+    let delayed = depth(words, b"delayed", MOST_DELAYED)?;
     Ok(Statement::NewHeader {
         device,
         bytes,
@@ -86,11 +86,11 @@ fn window(words: &mut Words, word: &[u8], wide: bool) -> Result<Option<Window>, 
 
 /// The number of entries behind this word, if it is the next one.
 #[tactic(auto, unfolding(crate::specs::Bridges::depth))]
-fn depth(words: &mut Words, word: &[u8]) -> Result<u8, LineFault>
-    ensures { Gives result words.new (depth word.now words.old) }
+fn depth(words: &mut Words, word: &[u8], most: u8) -> Result<u8, LineFault>
+    ensures { Gives result words.new (depth word.now most words.old) }
 {
     if words.skips(word) {
-        words.decimal_byte(1, 8)
+        words.decimal_byte(1, most)
     } else {
         Ok(4)
     }

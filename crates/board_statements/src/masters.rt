@@ -9,7 +9,7 @@ ghost use Rattle.board_statements.specs.Masters.{direction_of_word};
 use crate::Statement;
 use crate::targets::is_wide_in;
 use crate::words::{Words, is_word};
-use board_model::{Op, Planned};
+use board_model::{MOST_DWORDS, MOST_TRIES, Op, Planned};
 use pci_command::{Command, Phases, Space};
 use text_faults::LineFault;
 
@@ -106,7 +106,7 @@ pub fn poll(words: &mut Words, wide: bool, space: Space) -> Result<Statement, Li
     let address = words.long(is_wide_in(wide, space))?;
     let mask = words.hex()?;
     let value = words.hex()?;
-    let tries = words.decimal(1, 65_536)?;
+    let tries = words.decimal(1, MOST_TRIES)?;
     Ok(does(Op::Poll {
         space,
         address,
@@ -143,8 +143,8 @@ fn does(op: Op) -> Statement
     }
 }
 
-// The first eight of the data words that are left, of which there must be one, and whether there
-// are more.
+// As many of the data words that are left as a burst may have, of which there must be one, and
+// whether there are more.
 fn burst_words(words: &mut Words) -> Result<(Phases, bool), LineFault>
     ensures { Gives result words.new (burst_words words.old) }
 {
@@ -153,7 +153,7 @@ fn burst_words(words: &mut Words) -> Result<(Phases, bool), LineFault>
     let mut too_many = false;
     while !words.is_done() {
         let phase = words.data_word()?;
-        if phases.len() < 8 {
+        if phases.len() < MOST_DWORDS {
             phases.push(phase);
         } else {
             too_many = true;

@@ -6,7 +6,7 @@ ghost use Rattle.board_statements.specs.Targets.{abort_form, opening_form};
 
 use crate::Statement;
 use crate::words::{Words, is_word};
-use board_model::{Opening, Range};
+use board_model::{MOST_DWORDS, Opening, Range};
 use pci_command::Space;
 use text_faults::LineFault;
 
@@ -57,7 +57,7 @@ pub fn stalls(words: &mut Words) -> Result<Statement, LineFault>
 pub fn bursts(words: &mut Words) -> Result<Statement, LineFault>
     ensures { Gives result words.new (burst_form words.old) }
 {
-    let phases = words.decimal_byte(1, 8)?;
+    let phases = words.decimal_byte(1, MOST_DWORDS as u8)?;
     Ok(Statement::Bursts(phases))
 }
 

@@ -12,6 +12,7 @@ use Rattle.board_model.specs.declared.bridge.Place.{Place}
 use Rattle.board_model.specs.declared.bridge.Place.TheVariants.{Target, Header, Lane, Nobody}
 use Rattle.board_model.specs.declared.op.Op.{Op}
 use Rattle.board_model.specs.declared.board.Board.{Board}
+use Rattle.board_model.specs.Limits.{most_bridges, most_plans}
 use Rattle.board_model.specs.WellFormed.{is_well_formed_op, is_well_formed_master, is_well_formed_target, operations_in, is_well_formed}
 use Rattle.board_model.specs.Requests.{phases_of, request_on, tries_of, is_posted}
 use Rattle.board_model.specs.Claims.{claim}
@@ -33,7 +34,7 @@ lanes_within (suc n) board op on =
     lanes_by (λ lane. route_within n board op (end_of board lane)) on n (claim board on (request_on op on))
     (λ lane. lanes_within n board op (end_of board lane))
 
-way_short : (board : Board) (op : Op) (on : ℕ) → IsDecodable board → length (way board op on) ≤ 31
+way_short : (board : Board) (op : Op) (on : ℕ) → IsDecodable board → length (way board op on) ≤ most_bridges
 way_short board op on decodable = omega (arith, lanes_within (length board.bridges) board op on, decodable.few_bridges)
 
 -- A write reaches its target in at most one piece more than it has data phases.
@@ -100,12 +101,12 @@ greatest_small : {X : Type 0} (weight : X → ℕ) (most : ℕ) → ((x : X) →
 greatest_small weight most small [] = omega arith
 greatest_small weight most small (x ∷ xs) = omega (arith, small x, greatest_small weight most small xs)
 
-longest_small : (board : Board) → IsDecodable board → longest_way board ≤ 31
+longest_small : (board : Board) → IsDecodable board → longest_way board ≤ most_bridges
 longest_small board decodable =
-    greatest_small (λ (master : Master). greatest (λ op. length (way board op master.bus)) master.ops) 31
-    (λ master. greatest_small (λ op. length (way board op master.bus)) 31 (λ op. way_short board op master.bus decodable) master.ops) board.masters
+    greatest_small (λ (master : Master). greatest (λ op. length (way board op master.bus)) master.ops) most_bridges
+    (λ master. greatest_small (λ op. length (way board op master.bus)) most_bridges (λ op. way_short board op master.bus decodable) master.ops) board.masters
 
-product_small : (longest discards : ℕ) → longest ≤ 31 → discards ≤ 1024 → 4 * longest * discards ≤ 126976
+product_small : (longest discards : ℕ) → longest ≤ most_bridges → discards ≤ most_plans → 4 * longest * discards ≤ 4 * most_bridges * most_plans
 product_small longest discards short few =
     let product = mul-le-mul_right discards short in omega (arith, product, few)
 

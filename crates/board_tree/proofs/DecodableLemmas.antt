@@ -8,7 +8,7 @@ use Rattle.board_model.specs.declared.board.Board.{Board}
 use Rattle.board_model.specs.WellFormed.{is_well_formed_target, is_well_formed}
 use Rattle.board_model.specs.Valid.{lacks_a_bus, IsValid}
 use Rattle.board_tree.specs.Decodable.{IsDecodable}
-use Rattle.board_tree.proofs.FewLemmas.{few_targets}
+use Rattle.board_model.proofs.FewLemmas.{few_targets}
 use Rattle.board_model.proofs.Laws.{WellFormed-parts, Target-parts}
 
 bursts_taken : (targets : List Target) → list_all is_well_formed_target targets ≡ true → All (λ (target : Target). 0 < target.burst) targets

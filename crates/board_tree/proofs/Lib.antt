@@ -1,5 +1,4 @@
 pub mod GreatestLemmas
-pub mod FewLemmas
 pub mod DecodableLemmas
 pub mod BoundLemmas
 pub mod ValidLemmas

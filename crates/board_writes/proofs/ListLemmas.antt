@@ -6,6 +6,7 @@ use Rattle.std.proofs.lemmas.List.Elements.{Contains-append_left, Contains-push,
 use Rattle.std.proofs.lemmas.Option.{slice_get_past, slice_get_within}
 use Rattle.list_facts.proofs.TestLemmas.{list_all-get}
 use Rattle.pci_command.specs.declared.op_id.OpId.{OpId}
+use Rattle.board_model.specs.Limits.{most_ops}
 use Rattle.board_model.specs.declared.op.Op.{Op}
 use Rattle.board_model.specs.declared.agents.Master.{Master}
 use Rattle.board_model.specs.declared.board.Board.{Board}
@@ -19,7 +20,7 @@ use Rattle.board_writes.specs.Listed.{ListsPolls, IsAmong, AddsPolls}
 use Rattle.board_writes.proofs.StartLemmas.{tried_is}
 
 -- a program has at most 1,024 operations
-pub few_at : (board : Board) (number : ℕ) (agent : Master) → IsValid board → slice_get board.masters number ≡ Some agent → length agent.ops ≤ 1024
+pub few_at : (board : Board) (number : ℕ) (agent : Master) → IsValid board → slice_get board.masters number ≡ Some agent → length agent.ops ≤ most_ops
 few_at board number agent valid there =
     (Master-parts agent (list_all-get is_well_formed_master board.masters number agent (WellFormed-parts board valid.well_formed).masters there)).few
 

@@ -13,6 +13,7 @@ use Rattle.pci_command.specs.declared.command.Space.TheVariants.{Mem, Io, Cfg}
 use Rattle.pci_command.specs.declared.phases.Phase.{Phase}
 use Rattle.pci_command.specs.declared.op_id.OpId.{OpId}
 use Rattle.pci_command.specs.Same.{same_space}
+use Rattle.board_model.specs.Limits.{most_ops}
 use Rattle.board_model.specs.declared.op.Op.{Op}
 use Rattle.board_model.specs.declared.agents.Master.{Master}
 use Rattle.board_model.specs.declared.board.Board.{Board}
@@ -154,7 +155,7 @@ master_parts board masters i m word within =
     ∙ kept_by-append board (dword word) ops (ops_by (i + 1) (drop (i + 1) masters))
 
 -- a program has at most 1,024 operations
-pub few_at : (board : Board) (i : ℕ) (d : Master) → IsValid board → i < length board.masters → length (get_or board.masters i d).ops ≤ 1024
+pub few_at : (board : Board) (i : ℕ) (d : Master) → IsValid board → i < length board.masters → length (get_or board.masters i d).ops ≤ most_ops
 few_at board i d valid within =
     let formed = list_all-get is_well_formed_master board.masters i (get_or board.masters i d) (WellFormed-parts board valid.well_formed).masters (slice_get-get_or board.masters i d within) in
     (Master-parts (get_or board.masters i d) formed).few

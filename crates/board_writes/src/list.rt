@@ -1,5 +1,6 @@
 ghost use Rattle.std.specs.Prelude.{◌≡◌, [], ◌≤◌, IfOk, OnOk, length};
 ghost use Rattle.board_writes.specs.Listed.{AddsPolls, ListsPolls};
+ghost use Rattle.board_model.specs.Limits.{most_ops};
 
 use crate::start::is_tried;
 use board_model::Op;
@@ -32,7 +33,7 @@ fn list_all(ops: &mut Vec<OpId>, tree: &Tree) -> Result<(), NoMemory>
 /// Those of the program of one master, behind others.
 #[tactic(auto, using(crate::proofs::ListLemmas::of_program))]
 fn list_program(ops: &mut Vec<OpId>, master: u16, program: &[Op]) -> Result<(), NoMemory>
-    requires { length program.now ≤ 1024 }
+    requires { length program.now ≤ most_ops }
     ensures { OnOk result
         (AddsPolls master program.now (length program.now) ops.old.items ops.new.items) }
 {

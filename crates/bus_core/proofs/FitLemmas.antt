@@ -6,6 +6,7 @@ use Rattle.pci_command.specs.declared.command.Space.TheVariants.{Mem, Io, Cfg}
 use Rattle.pci_command.specs.declared.phases.Phase.{Phase}
 use Rattle.pci_command.specs.declared.request.Request.{Request}
 use Rattle.pci_command.specs.declared.op_id.OpId.{OpId}
+use Rattle.board_model.specs.Limits.{most_dwords}
 use Rattle.board_model.specs.declared.op.Op.{Op}
 use Rattle.board_model.specs.declared.op.Op.TheVariants.{Read as ReadOp, Write as WriteOp, CfgRead, CfgWrite, Poll}
 use Rattle.board_model.specs.declared.board.Board.{Board}
@@ -18,7 +19,7 @@ use Rattle.history_model.proofs.facts.RequestLemmas.{request_is_of}
 write_fits : (address gone : ℕ) (phases : List Phase) (space : Option Space) → is_well_formed_write address phases space ≡ true → address < 2 ^ 64 → gone < length phases → address + 4 * gone < 2 ^ 64
 write_fits address gone phases None well fits within = cc
 write_fits address gone phases (Some Mem) well fits within =
-    let burst = and_parts (is_within 1 8 (length phases)) (nat_le (address % 64 + 4 * length phases) 64) (Write-parts Mem address phases well).burst in
+    let burst = and_parts (is_within 1 most_dwords (length phases)) (nat_le (address % 64 + 4 * length phases) 64) (Write-parts Mem address phases well).burst in
     let block : address % 64 + 4 * length phases ≤ 64 = leb-true (address % 64 + 4 * length phases) 64 burst.1 in
     omega (arith, block, fits, within)
 write_fits address gone phases (Some Io) well fits within =

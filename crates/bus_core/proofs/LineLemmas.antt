@@ -4,6 +4,7 @@ use Rattle.std.specs.List.{position, list_any}
 use Rattle.std.proofs.lemmas.Bool.{eqb-true, eq-eqb}
 use Rattle.std.proofs.lemmas.Option.{slice_get_within}
 use Rattle.pci_command.specs.declared.op_id.OpId.{OpId}
+use Rattle.board_model.specs.Limits.{most_agents, most_ports}
 use Rattle.board_model.specs.declared.bridge.Lane.{Lane as BridgeLane}
 use Rattle.board_model.specs.declared.board.Board.{Board}
 use Rattle.history_model.specs.declared.event.By.{By}
@@ -26,7 +27,7 @@ place_in None = 300
 place_in (Some place) = place
 
 abbrev pub line_of : Shape → By → OpId → ℕ
-line_of shape Master o = 9 + place_in (position (λ master. master == o.master) shape.masters)
+line_of shape Master o = most_ports + place_in (position (λ master. master == o.master) shape.masters)
 line_of shape (ByLane lane) o = place_in (position (λ other. same_lane other lane) shape.lanes)
 
 -- the one that passes is at its place
@@ -64,7 +65,7 @@ apart_test m n differ =
     let P : Bool → Type 0 = λ b. (m == n) ≡ b → false ≡ b in
     (elim (m == n) as P [ true ↦ λ same. absurd (differ (eqb-true m n same)) | false ↦ λ _. refl ]) refl
 
-module _ (board : Board) (shape : Shape) (is_of : IsOf board shape) (few_lanes : length shape.lanes ≤ 9) (few_masters : length shape.masters ≤ 8) where
+module _ (board : Board) (shape : Shape) (is_of : IsOf board shape) (few_lanes : length shape.lanes ≤ most_ports) (few_masters : length shape.masters ≤ most_agents) where
   lane_at : (n : ℕ) (lane : BridgeLane) → slice_get shape.lanes n ≡ Some lane → position (λ other. same_lane other lane) shape.lanes ≡ Some n
   lane_at n lane there =
       place_found (λ other. same_lane other lane) shape.lanes n lane there (same_lane_self lane) (λ m other at same.
@@ -80,28 +81,28 @@ module _ (board : Board) (shape : Shape) (is_of : IsOf board shape) (few_lanes :
       place_found (λ other. other == master) shape.masters n master there (eq-eqb master master refl) (λ m other at same.
       is_of.masters_apart m n master (at ∙ ap Some (eqb-true other master same)) there)
 
-  within_lanes : (n : ℕ) (lane : BridgeLane) → slice_get shape.lanes n ≡ Some lane → n < 9
+  within_lanes : (n : ℕ) (lane : BridgeLane) → slice_get shape.lanes n ≡ Some lane → n < most_ports
   within_lanes n lane there = omega (arith, slice_get_within shape.lanes n lane there, few_lanes)
 
-  within_masters : (n master : ℕ) → slice_get shape.masters n ≡ Some master → n < 8
+  within_masters : (n master : ℕ) → slice_get shape.masters n ≡ Some master → n < most_agents
   within_masters n master there = omega (arith, slice_get_within shape.masters n master there, few_masters)
 
   -- the line of a lane is no master's
-  lane_small : (found : Option ℕ) (n : ℕ) → n < 8 → ((k : ℕ) → found ≡ Some k → k < 9) → place_in found ≢ 9 + n
+  lane_small : (found : Option ℕ) (n : ℕ) → n < most_agents → ((k : ℕ) → found ≡ Some k → k < most_ports) → place_in found ≢ most_ports + n
   lane_small None n small within = λ same. absurd (omega (arith, same, small))
-  lane_small (Some k) n small within = λ same. let below : k < 9 = within k refl in absurd (omega (arith, same, below))
+  lane_small (Some k) n small within = λ same. let below : k < most_ports = within k refl in absurd (omega (arith, same, below))
 
   pub shape_lines : AreLines board (line_of shape) shape
   shape_lines =
       record {
         lanes = λ n lane o there.
             let at = lane_at n lane there in
-            let small : n < 9 = within_lanes n lane there in (
+            let small : n < most_ports = within_lanes n lane there in (
               ap place_in at,
               λ other p is_at.
                   let P : By → Type 0 = λ b. same_initiator b p (ByLane lane) o ≡ (line_of shape b p == n) in
                   elim other as P [
-                    | Master ↦ apart_test (9 + place_in (position (λ master. master == p.master) shape.masters)) n (λ same. absurd (omega (arith, same, small)))
+                    | Master ↦ apart_test (most_ports + place_in (position (λ master. master == p.master) shape.masters)) n (λ same. absurd (omega (arith, same, small)))
                     | ByLane l ↦ same_tests (same_lane l lane) (place_in (position (λ k. same_lane k l) shape.lanes) == n)
                         (λ same. eq-eqb (place_in (position (λ k. same_lane k l) shape.lanes)) n (ap (λ m. place_in (position (λ k. same_lane k m) shape.lanes)) (same_lane_true l lane same) ∙ ap place_in at))
                         (λ same. same_lane_symm l lane ∙ place_passes (λ k. same_lane k l) shape.lanes n lane (omega arith) there (eqb-true (place_in (position (λ k. same_lane k l) shape.lanes)) n same))
@@ -109,19 +110,19 @@ module _ (board : Board) (shape : Shape) (is_of : IsOf board shape) (few_lanes :
             );
         masters = λ n o there.
             let at = master_at n o.master there in
-            let small : n < 8 = within_masters n o.master there in (
-              ap (λ found. 9 + place_in found) at,
+            let small : n < most_agents = within_masters n o.master there in (
+              ap (λ found. most_ports + place_in found) at,
               λ other p is_at.
-                  let P : By → Type 0 = λ b. same_initiator b p Master o ≡ (line_of shape b p == 9 + n) in
+                  let P : By → Type 0 = λ b. same_initiator b p Master o ≡ (line_of shape b p == most_ports + n) in
                   elim other as P [
-                    | Master ↦ same_tests (p.master == o.master) (9 + place_in (position (λ master. master == p.master) shape.masters) == 9 + n)
-                        (λ same. eq-eqb (9 + place_in (position (λ master. master == p.master) shape.masters)) (9 + n) (ap (λ m. 9 + place_in (position (λ master. master == m) shape.masters)) (eqb-true p.master o.master same) ∙ ap (λ found. 9 + place_in found) at))
+                    | Master ↦ same_tests (p.master == o.master) (most_ports + place_in (position (λ master. master == p.master) shape.masters) == most_ports + n)
+                        (λ same. eq-eqb (most_ports + place_in (position (λ master. master == p.master) shape.masters)) (most_ports + n) (ap (λ m. most_ports + place_in (position (λ master. master == m) shape.masters)) (eqb-true p.master o.master same) ∙ ap (λ found. most_ports + place_in found) at))
                         (λ same.
-                        let is : 9 + place_in (position (λ master. master == p.master) shape.masters) ≡ 9 + n = eqb-true (9 + place_in (position (λ master. master == p.master) shape.masters)) (9 + n) same in
+                        let is : most_ports + place_in (position (λ master. master == p.master) shape.masters) ≡ most_ports + n = eqb-true (most_ports + place_in (position (λ master. master == p.master) shape.masters)) (most_ports + n) same in
                         let place : place_in (position (λ master. master == p.master) shape.masters) ≡ n = omega (arith, is) in
                         let passes : (o.master == p.master) ≡ true = place_passes (λ master. master == p.master) shape.masters n o.master (omega arith) there place in
                         eq-eqb p.master o.master (sym (eqb-true o.master p.master passes)))
-                    | ByLane l ↦ apart_test (place_in (position (λ k. same_lane k l) shape.lanes)) (9 + n)
+                    | ByLane l ↦ apart_test (place_in (position (λ k. same_lane k l) shape.lanes)) (most_ports + n)
                         (lane_small (position (λ k. same_lane k l) shape.lanes) n small (λ k is. let found = found_at (λ m. same_lane m l) shape.lanes k is in within_lanes k found.0 found.1.0))
                   ],
             );

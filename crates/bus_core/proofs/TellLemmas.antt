@@ -4,6 +4,7 @@ use Rattle.std.proofs.lemmas.Bool.{eqb-true}
 use Rattle.std.proofs.lemmas.List.{append-nil}
 use Rattle.pci_command.specs.declared.op_id.OpId.{OpId}
 use Rattle.pci_command.specs.declared.op_id.Outcome.{Outcome}
+use Rattle.board_model.specs.Limits.{most_ports}
 use Rattle.board_model.specs.declared.bridge.Place.{Place}
 use Rattle.board_model.specs.declared.op.Op.{Op}
 use Rattle.board_model.specs.declared.op.Op.TheVariants.{Read as ReadOp, Write, CfgRead, CfgWrite, Poll}
@@ -102,7 +103,7 @@ module _ (board : Board) (old : BusView) (place : ℕ) (master : MasterView) (o 
   has_place : slice_get (shape_of old).masters place ≡ Some o.master
   has_place = get_map (λ (m : MasterView). m.master) old.masters place master there ∙ ap Some (sym own_master)
 
-  pub master_line : IsLine board old.bus tags Master o (9 + place)
+  pub master_line : IsLine board old.bus tags Master o (most_ports + place)
   master_line =
       let line = stands.lines.masters place o has_place in
       record { line_is = line.0; tells = line.1; there = stands.is_of.masters_on place o.master has_place }
@@ -116,14 +117,16 @@ module _ (board : Board) (old : BusView) (place : ℕ) (master : MasterView) (o 
   master_apart n m differ is same =
       differ (stands.is_of.masters_apart n place master.master (get_map (λ (x : MasterView). x.master) old.masters n m is ∙ ap Some (sym same)) (get_map (λ (x : MasterView). x.master) old.masters place master there))
 
-pub master_turns : (board : Board) (old : BusView) (place : ℕ) (master : MasterView) (o : OpId) → slice_get old.masters place ≡ Some master → master.turn ≡ Some o → TurnsBack board old (9 + place) o → BusTurnsBack board Master o old
+pub master_turns : (board : Board) (old : BusView) (place : ℕ) (master : MasterView) (o : OpId) → slice_get old.masters place ≡ Some master
+    → master.turn ≡ Some o → TurnsBack board old (most_ports + place) o → BusTurnsBack board Master o old
 master_turns board old place master o there turn turns =
     record {
       wanted = λ tags world p stands. master_wants board old place master o there turn tags world p stands;
       turns = λ tags world p stands. turns.turns tags world p Master (master_line board old place master o there turn tags world p stands) stands;
     }
 
-pub master_retried : (board : Board) (old new : BusView) (place : ℕ) (master : MasterView) (o : OpId) (cause : Cause) (over : Option Sent) → slice_get old.masters place ≡ Some master → master.turn ≡ Some o → BusAnswers board old (9 + place) o (Retry cause) over new
+pub master_retried : (board : Board) (old new : BusView) (place : ℕ) (master : MasterView) (o : OpId) (cause : Cause) (over : Option Sent)
+    → slice_get old.masters place ≡ Some master → master.turn ≡ Some o → BusAnswers board old (most_ports + place) o (Retry cause) over new
     → BusPresents board Master o old (Retry cause) None None new
 master_retried board old new place master o cause over there turn answers =
     record {
@@ -138,7 +141,7 @@ master_retried board old new place master o cause over there turn answers =
     }
 
 pub master_did : (board : Board) (old mid : BusView) (masters : List MasterView) (place : ℕ) (master : MasterView) (o : OpId) (step : Step) (at : Place) (over : Option Sent) → slice_get old.masters place ≡ Some master → master.turn ≡ Some o
-    → BusAnswers board old (9 + place) o (Gives step at) over mid → mid.masters ≡ old.masters → TellsMaster board place step mid.masters masters
+    → BusAnswers board old (most_ports + place) o (Gives step at) over mid → mid.masters ≡ old.masters → TellsMaster board place step mid.masters masters
     → BusPresents board Master o old (Gives step at) over None (record mid { masters = masters })
 master_did board old mid masters place master o step at over there turn answers same tells =
     record {

@@ -5,6 +5,7 @@ use Rattle.std.specs.Prelude.{◌≡◌, ◌≢◌, ℕ, ◌+◌, ◌<◌, true,
 use Rattle.pci_command.specs.declared.request.Request.{Request}
 use Rattle.pci_command.specs.declared.op_id.OpId.{OpId}
 use Rattle.pci_command.specs.Command.{is_read}
+use Rattle.board_model.specs.Limits.{most_ports}
 use Rattle.board_model.specs.declared.agents.Target.{Target as TargetAgent}
 use Rattle.board_model.specs.declared.bridge.Bridge.{Bridge}
 use Rattle.board_model.specs.declared.bridge.Lane.{Lane as BridgeLane}
@@ -77,7 +78,7 @@ pub record AreLines (board : Board) (tags : By → OpId → ℕ) (shape : Shape)
   pub lanes : (place : ℕ) (lane : BridgeLane) (o : OpId) → slice_get shape.lanes place ≡ Some lane
       → (tags (ByLane lane) o ≡ place) × IsTag board shape.bus tags (ByLane lane) o place
   pub masters : (place : ℕ) (o : OpId) → slice_get shape.masters place ≡ Some o.master
-      → (tags Master o ≡ 9 + place) × IsTag board shape.bus tags Master o (9 + place)
+      → (tags Master o ≡ most_ports + place) × IsTag board shape.bus tags Master o (most_ports + place)
 
 -- only of writes did data phases go through, and never all of them
 abbrev pub PartsAreOfWrites : Board → ℕ → List Event → Type 0

@@ -14,7 +14,7 @@ use crate::places::{
 use crate::port::Port;
 use crate::steps::{as_answer, nobody, rest_of, sent_over, step_of};
 use arrayvec::ArrayVec;
-use board_model::{Board, Lane, Place, request_of};
+use board_model::{Board, Lane, MOST_OFFERS, Place, request_of};
 use board_tree::{Tree, claim_with};
 use bus_agents::{MasterState, Through};
 use bus_face::Offer;
@@ -107,7 +107,7 @@ impl Bus {
     }
 
     /// The items that the lane of the port at this place presents, in the order in which they came.
-    pub fn offers(&self, place: usize) -> ArrayVec<Offer, 16>
+    pub fn offers(&self, place: usize) -> ArrayVec<Offer, MOST_OFFERS>
         requires { place < length self.now.ports }
         ensures kept { IfSome (slice_get self.now.ports place) (λ port. result.items ≡
             offers_of port.face) }

@@ -7,6 +7,7 @@ ghost use Rattle.pci_command.specs.declared.op_id.OpId.{OpId};
 ghost use Rattle.board_model.specs.declared.board.Board.{Board};
 ghost use Rattle.history_model.specs.declared.event.By.{By};
 ghost use Rattle.bus_core.specs.Bus.{Shape, IsOf, AreLines};
+ghost use Rattle.board_model.specs.Limits.{most_agents, most_ports};
 
 mod arrive;
 mod bus;
@@ -21,8 +22,8 @@ pub use given::{Acted, Given, Sent, Served};
 pub use port::{Arrival, Port, other_bridges_leave_ports};
 
 /// The places of bridges and masters on a bus are lines that tell all its initiators apart, where
-/// there are at most nine bridges and eight masters on it.
+/// there are few bridges and few masters on it.
 pub fn lines_tell_apart()
-    ensures { (board : Board) (shape : Shape) → IsOf board shape → length shape.lanes ≤ 9 →
-        length shape.masters ≤ 8 → (tags : By → OpId → ℕ) × AreLines board tags shape }
+    ensures { (board : Board) (shape : Shape) → IsOf board shape → length shape.lanes ≤ most_ports →
+        length shape.masters ≤ most_agents → (tags : By → OpId → ℕ) × AreLines board tags shape }
 {}

@@ -14,7 +14,7 @@ ghost use Rattle.bus_core.specs.Places.{WantsAt, EndsTurnAt, TellsMaster, EndsAt
 
 use crate::port::Port;
 use arrayvec::ArrayVec;
-use board_model::{Board, Lane};
+use board_model::{Board, Lane, MOST_OFFERS};
 use bus_agents::{MasterState, Through};
 use bus_face::{Offer, Reply};
 use bus_targets::{Access, TargetState};
@@ -142,7 +142,7 @@ pub(crate) fn end_at(
 }
 
 /// What the lane of the port at the place presents.
-pub(crate) fn offers_at(ports: &[Port], place: usize) -> ArrayVec<Offer, 16>
+pub(crate) fn offers_at(ports: &[Port], place: usize) -> ArrayVec<Offer, MOST_OFFERS>
     requires { place < length ports.now }
     ensures kept { IfSome (slice_get ports.now place) (λ port. result.items ≡ offers_of port.face) }
     ensures offers { OffersAt place ports.now result.items }

@@ -10,15 +10,19 @@ ghost use Rattle.bus_core.specs.Calls.{IsStamped};
 ghost use Rattle.bus_core.specs.declared.given.Served.TheVariants.{Retried};
 ghost use Rattle.bus_core.specs.Parts.{TellsLane};
 ghost use Rattle.bus_core.specs.Serves.{Serves, SendsStamped, SendsApart, IsAt, ServesMaster};
+ghost use Rattle.board_model.specs.Limits.{most_ports};
 
 use crate::places::{end_at, tell_master, want_at};
 use crate::{Acted, Bus, Sent, Served};
-use board_model::{Board, Lane};
+use board_model::{Board, Lane, MOST_PORTS};
 use board_tree::Tree;
 use bus_face::Offer;
 use history_model::{Answer, By, Event, Step};
 use machine_steps::lane_outcome;
 use pci_command::OpId;
+
+/// The line of the first master; those below are of ports.
+const FIRST_MASTER: u8 = MOST_PORTS as u8;
 
 impl Bus {
     /// The master at this place presents its turn, if its program did not end. A Retry changes
@@ -26,7 +30,7 @@ impl Bus {
     pub fn serve_master(&mut self, board: &Tree, place: u8, stamp: u32) -> Served
         requires formed { IsTrue (is_well_formed board.now) }
         requires place { place < length self.old.masters }
-        requires few { 9 + place < 256 }
+        requires few { most_ports + place < 256 }
         ensures shape { shape_of self.new ≡ shape_of self.old }
         ensures arrivals { arrivals_at self.new ≡ arrivals_at self.old }
         ensures stamped { SendsStamped stamp result }
@@ -44,7 +48,7 @@ impl Bus {
     fn serve_turn(&mut self, board: &Tree, place: u8, op: OpId, stamp: u32) -> Served
         requires formed { IsTrue (is_well_formed board.now) }
         requires place { place < length self.old.masters }
-        requires few { 9 + place < 256 }
+        requires few { most_ports + place < 256 }
         ensures shape { shape_of self.new ≡ shape_of self.old }
         ensures arrivals { arrivals_at self.new ≡ arrivals_at self.old }
         ensures stamped { SendsStamped stamp result }
@@ -53,7 +57,7 @@ impl Bus {
         ensures retried { result ≡ Retried → self.new ≡ self.old }
     {
         let plain = board.board();
-        match self.answer(board, 9 + place, op, stamp) {
+        match self.answer(board, FIRST_MASTER + place, op, stamp) {
             None => Served::TurnsBack,
             Some(given) => match given.answer {
                 Answer::Retry { .. } => Served::Retried,

@@ -2,10 +2,11 @@ ghost use Rattle.std.specs.Prelude.{◌≡◌, ◌+◌, ◌<◌, ◌≤◌, ◌^
 ghost use Rattle.std.specs.Prelude.{not, true, false, None, Some, nat_lt};
 ghost use Rattle.bus_face.specs.State.{FaceState};
 ghost use Rattle.bus_face.specs.Offers.{answered_with};
+ghost use Rattle.board_model.specs.Limits.{most_posted, most_delayed};
 
 use crate::{Offer, Reply};
 use arrayvec::ArrayVec;
-use board_model::is_posted;
+use board_model::{MOST_OFFERS, is_posted};
 use history_model::{Cause, Mark};
 use lane_items::{AskTable, DoneTable, Item, PostedTable, SlotTable};
 use machine_steps::{completion_kind, request_kind};
@@ -67,8 +68,8 @@ impl Face {
 
     /// Half of a bridge that nothing crossed yet.
     pub fn new(posted: u8, delayed: u8) -> Face
-        requires posted { (1 ≤ posted) × (posted ≤ 8) }
-        requires delayed { (1 ≤ delayed) × (delayed ≤ 8) }
+        requires posted { (1 ≤ posted) × (posted ≤ most_posted) }
+        requires delayed { (1 ≤ delayed) × (delayed ≤ most_delayed) }
         ensures empty { StandsForEmpty result }
         ensures kept { result ≡ record {
           posts = record { depth = posted; posts = [] };
@@ -343,7 +344,7 @@ impl Face {
     /// The items that may be driven on this bus now, in the order in which they came: the delayed
     /// requests that came before every posted write and have no older equal one, and the posted
     /// write that came first (PCI Local Bus 2.2, appendix E, from memory).
-    pub fn offers(&self) -> ArrayVec<Offer, 16>
+    pub fn offers(&self) -> ArrayVec<Offer, MOST_OFFERS>
         ensures kept { result.items ≡ offers_of self.now }
         ensures lanes { OffersOfLanes self.now result.items }
     {
@@ -351,7 +352,7 @@ impl Face {
     }
 
     /// The same, by the tables.
-    fn all_offers(&self) -> ArrayVec<Offer, 16>
+    fn all_offers(&self) -> ArrayVec<Offer, MOST_OFFERS>
         ensures { result.items ≡ offers_of self.now }
     {
         let mut offers = self.ask_offers();
@@ -366,9 +367,9 @@ impl Face {
     }
 
     /// The delayed requests among them.
-    fn ask_offers(&self) -> ArrayVec<Offer, 16>
+    fn ask_offers(&self) -> ArrayVec<Offer, MOST_OFFERS>
         ensures all { result.items ≡ ask_offers self.now.posts.posts [] self.now.asks.asks }
-        ensures few { length result.items ≤ 8 }
+        ensures few { length result.items ≤ most_delayed }
     {
         let mut offers = ArrayVec::new();
         for place in 0..self.asks.len() {

@@ -4,6 +4,7 @@ use Rattle.std.proofs.lemmas.Bool.{eq-eqb}
 use Rattle.std.proofs.lemmas.Option.{slice_get_within}
 use Rattle.std.proofs.lemmas.List.{append-nil, length-append, length-map}
 use Rattle.pci_command.specs.declared.op_id.OpId.{OpId}
+use Rattle.board_model.specs.Limits.{most_waiting}
 use Rattle.board_model.specs.declared.bridge.Lane.{Lane as BridgeLane}
 use Rattle.board_model.specs.declared.board.Board.{Board}
 use Rattle.board_model.specs.Ways.{lane_back}
@@ -62,7 +63,7 @@ there_at (x ∷ xs) (suc n) within = there_at xs n (omega arith)
 
 -- an end without room, and something that is to be sent there
 abbrev IsFull : {End : Type 0} → (End → ℕ) → List End → Option Sent → Option Sent → Type 0
-IsFull {End} kept ends over back = (n : ℕ) × ((end : End) × ((slice_get ends n ≡ Some end) × ((kept end ≡ 32) × (0 < length (items_at over n ++ items_at back n)))))
+IsFull {End} kept ends over back = (n : ℕ) × ((end : End) × ((slice_get ends n ≡ Some end) × ((kept end ≡ most_waiting) × (0 < length (items_at over n ++ items_at back n)))))
 
 here_one : (sent : Sent) → items_at (Some sent) sent.place ≡ sent.item ∷ []
 here_one sent = let self : (sent.place == sent.place) ≡ true = eq-eqb sent.place sent.place refl in rw self refl

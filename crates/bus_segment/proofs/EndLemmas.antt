@@ -4,6 +4,7 @@ use Rattle.std.proofs.lemmas.Bool.{eqb-true, eqb-false, eq-eqb}
 use Rattle.std.proofs.lemmas.Option.{slice_get_within}
 use Rattle.std.proofs.lemmas.List.{append-nil, append_assoc}
 use Rattle.lane_items.specs.declared.item.Item.{Item}
+use Rattle.board_model.specs.Limits.{most_waiting}
 use Rattle.bus_core.specs.declared.given.Sent.{Sent}
 use Rattle.bus_core.specs.Calls.{items_at}
 use Rattle.bus_segment.specs.Ends.{EndAfter, HasRoom, SendsOne, SendsAt, SendsBoth}
@@ -15,11 +16,12 @@ none_beyond (x ∷ xs) zero none = cc
 none_beyond (x ∷ xs) (suc n) none = let rest = none_beyond xs n none in omega arith
 
 -- there is one end at a place
-pub room_at : {End : Type 0} (kept : End → ℕ) (ends : List End) (place : ℕ) (end : End) → slice_get ends place ≡ Some end → kept end < 32 → (other : End) → slice_get ends place ≡ Some other → kept other < 32
+pub room_at : {End : Type 0} (kept : End → ℕ) (ends : List End) (place : ℕ) (end : End) → slice_get ends place ≡ Some end
+    → kept end < most_waiting → (other : End) → slice_get ends place ≡ Some other → kept other < 32
 room_at kept ends place end there less other at =
     let both = sym there ∙ at in
     let same : end ≡ other = cc in
-    subst (λ e. kept e < 32) same less
+    subst (λ e. kept e < most_waiting) same less
 
 module _ {End : Type 0} (had sent got : End → List Item) (paired : End → End → Type 0) where
   -- nothing happened at an end

@@ -2,6 +2,7 @@
 use Rattle.std.specs.Prelude.{◌≡◌, ℕ, ◌<◌, ◌≤◌, IfNone, List, [], ◌∷◌, ◌++◌, length, Option, Some, None, option_to_list, slice_get}
 use Rattle.lane_items.specs.declared.item.Item.{Item}
 use Rattle.lane_items.specs.Lane.{KeepsPairs, in_hand}
+use Rattle.board_model.specs.Limits.{most_waiting}
 use Rattle.bus_core.specs.declared.given.Sent.{Sent}
 use Rattle.bus_core.specs.Calls.{items_at}
 use Rattle.bus_core.specs.Places.{OneChanged}
@@ -16,12 +17,12 @@ pub record EndAfter {End : Type 0} (had sent got : End → List Item) (paired : 
 -- an item may be sent at its port, where there is one: its end keeps fewer than it can
 abbrev pub HasRoom : {End : Type 0} → (End → ℕ) → List End → Option Sent → Type 0
 HasRoom {End} kept ends None = Unit {0}
-HasRoom {End} kept ends (Some sent) = (end : End) → slice_get ends sent.place ≡ Some end → kept end < 32
+HasRoom {End} kept ends (Some sent) = (end : End) → slice_get ends sent.place ≡ Some end → kept end < most_waiting
 
 -- the end of its port keeps as many as it can
 abbrev pub LacksRoom : {End : Type 0} → (End → ℕ) → List End → Option Sent → Type 0
 LacksRoom {End} kept ends None = ⊥
-LacksRoom {End} kept ends (Some sent) = (end : End) × (slice_get ends sent.place ≡ Some end) × (kept end ≡ 32)
+LacksRoom {End} kept ends (Some sent) = (end : End) × (slice_get ends sent.place ≡ Some end) × (kept end ≡ most_waiting)
 
 -- one end was sent one item
 pub record SendsOne {End : Type 0} (had sent got : End → List Item) (paired : End → End → Type 0) (place : ℕ) (old : List End) (item : Item) (new : List End) : Type 0 where

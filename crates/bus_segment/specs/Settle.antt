@@ -2,6 +2,7 @@
 use Rattle.std.specs.Prelude.{◌≡◌, ℕ, ◌≤◌, List, length, Some, slice_get}
 use Rattle.lane_items.specs.declared.item.Item.{Item}
 use Rattle.lane_items.specs.Lane.{GotInOrder, left_count, Crosses, IsEmptied}
+use Rattle.board_model.specs.Limits.{most_waiting}
 use Rattle.bus_core.specs.Places.{OneChanged}
 
 -- the ends at the two places are those of one bridge, and of each of its lanes at most 32 items are left, at least where
@@ -10,7 +11,7 @@ pub record MaySettle {End : Type 0} (had sent got : End → List Item) (kept : E
   pub pairs : (a b : End) → slice_get here place ≡ Some a → slice_get there other_place ≡ Some b → paired a b
   pub fits : (a b : End) → slice_get here place ≡ Some a → slice_get there other_place ≡ Some b
       → GotInOrder (had b) (got b) (sent a) (kept a) → GotInOrder (had a) (got a) (sent b) (kept b)
-      → (left_count (had b) (got b) (sent a) ≤ 32) × (left_count (had a) (got a) (sent b) ≤ 32)
+      → (left_count (had b) (got b) (sent a) ≤ most_waiting) × (left_count (had a) (got a) (sent b) ≤ most_waiting)
 
 -- two ends are settled: what each sent, and the other did not get, is in the other's hand
 pub record Settled {End : Type 0} (had sent got : End → List Item) (kept : End → ℕ) (paired : End → End → Type 0) (a b a_after b_after : End) : Type 0 where

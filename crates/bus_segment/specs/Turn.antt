@@ -2,6 +2,7 @@
 use Rattle.std.specs.Prelude.{◌≡◌, ℕ, ◌+◌, ◌^◌, ◌<◌, ◌≤◌, max, Bool, true, false, ◌&&◌, nat_lt, List, [], ◌∷◌, ◌++◌, length, reverse, Option, Some, None, option_to_list, slice_get, ◌⊎◌}
 use Rattle.pci_command.specs.declared.request.Request.{Request}
 use Rattle.pci_command.specs.declared.op_id.OpId.{OpId}
+use Rattle.board_model.specs.Limits.{most_waiting}
 use Rattle.board_model.specs.declared.bridge.Lane.{Lane as BridgeLane}
 use Rattle.board_model.specs.declared.bridge.Place.TheVariants.{Lane}
 use Rattle.board_model.specs.declared.board.Board.{Board}
@@ -63,7 +64,7 @@ Refuses board bus world lane (Some item) = is_allowed_on board bus world lane it
 
 -- the end keeps 32 items, and an event that is allowed now would send one more there
 abbrev pub HasNoRoom : Board → ℕ → (BridgeLane → List Item) → List Stamped → BridgeLane → ℕ → Type 0
-HasNoRoom board bus came p lane kept = (kept ≡ 32) × ((e : Event) × Sends board bus (all_carried came) (events_of p) lane e)
+HasNoRoom board bus came p lane kept = (kept ≡ most_waiting) × ((e : Event) × Sends board bus (all_carried came) (events_of p) lane e)
 
 -- the segment stops at the port of this lane for one of these causes
 pub record StopsAt (board : Board) (bus : ℕ) (came : BridgeLane → List Item) (p : List Stamped) (lane : BridgeLane) (refused : Option Item) (kept : ℕ) : Type 0 where

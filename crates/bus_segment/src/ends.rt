@@ -3,6 +3,7 @@ ghost use Rattle.bus_core.specs.declared.given.Sent.{Sent as SentItem};
 ghost use Rattle.bus_segment.specs.Ends.{HasRoom, LacksRoom, ReceivesOne};
 ghost use Rattle.bus_segment.specs.Ends.{SendsOne, SendsAt, SendsBoth, sent_at};
 ghost use Rattle.bus_core.specs.Calls.{stamp_of};
+ghost use Rattle.board_model.specs.Limits.{most_waiting};
 
 use bus_core::Sent;
 use lane_items::{Item, LaneEnd};
@@ -42,7 +43,7 @@ pub(crate) fn send_at<L: LaneEnd>(ends: &mut [L], sent: Option<Sent>)
 
 fn send_one<L: LaneEnd>(ends: &mut [L], place: usize, item: Item)
     requires place { place < length ends.old }
-    requires room { (end : L) → slice_get ends.old place ≡ Some end → L.kept end < 32 }
+    requires room { (end : L) → slice_get ends.old place ≡ Some end → L.kept end < most_waiting }
     ensures { SendsOne L.had L.sent L.got L.paired place ends.old item ends.new }
 {
     let end = &mut ends[place];

@@ -10,6 +10,7 @@ ghost use Rattle.bus_core.specs.Bus.{shape_of, arrivals_at};
 ghost use Rattle.bus_core.specs.Serves.{SendsApart, OneMoreAt};
 ghost use Rattle.bus_segment.specs.Steps.{StampsRise, NothingCame, IsOfMaster, IsOfLane, Retries};
 ghost use Rattle.bus_segment.specs.Turn.{Does, Records, Finishes, Keeps, Takes};
+ghost use Rattle.board_model.specs.Limits.{most_ports};
 
 use crate::ends::{has_room, receive_at, send_at, send_both, sent_at, stamp_of};
 use board_model::{Board, Lane};
@@ -138,7 +139,7 @@ impl<L: LaneEnd + Drop> Segment<L> {
     pub fn serve_master(&mut self, board: &Tree, place: u8)
         requires formed { IsTrue (is_well_formed board.now) }
         requires place { place < length self.old.bus.masters }
-        requires few { 9 + place < 256 }
+        requires few { most_ports + place < 256 }
         requires ends { length self.old.ends.items ≡ length self.old.bus.ports }
         requires goes { self.old.stopped ≡ false }
         requires spare { vec_len self.old.events < vec_capacity self.old.events }

@@ -2,6 +2,7 @@
 use Rattle.std.proofs.Common.{◌≡◌, ℕ, ◌+◌, Bool, true, false, cond, nat_le, List, [], ◌∷◌, length, Option, Some, None, Result, Ok, Err, refl, subst, codes}
 use Rattle.std.specs.Str.{bytes_eq}
 use Rattle.std.proofs.lemmas.Bool.{and_parts}
+use Rattle.board_model.specs.Limits.{most_tries}
 use Rattle.board_model.specs.declared.board.Board.{Board}
 use Rattle.board_model.specs.WellFormed.{is_within, is_well_formed}
 use Rattle.board_text.specs.Lines.{lines_of}
@@ -39,13 +40,13 @@ use Rattle.dma_agents.proofs.StepLemmas.{OnDraft, Keeps, line_may, line_keeps, O
 
 -- a poll is tried at least once, and a put has a byte
 is_formed_line : DeviceLine → Bool
-is_formed_line (Device name target bell) = is_within 1 65536 bell.tries
-is_formed_line (Handler name bus wait) = is_within 1 65536 wait.tries
+is_formed_line (Device name target bell) = is_within 1 most_tries bell.tries
+is_formed_line (Handler name bus wait) = is_within 1 most_tries wait.tries
 is_formed_line (Puts put) = nat_le 1 put.length
 is_formed_line (Gets address) = true
 is_formed_line (Sends address message) = true
 is_formed_line (Looks address) = true
-is_formed_line (Waits flag) = is_within 1 65536 flag.tries
+is_formed_line (Waits flag) = is_within 1 most_tries flag.tries
 is_formed_line (Writes address value) = true
 
 abbrev IsFormedLine : DeviceLine → Type 0
@@ -55,14 +56,14 @@ abbrev Any : {A : Type 0} → A → Type 0
 Any value = Unit {0}
 
 abbrev HasTries : Flag → Type 0
-HasTries flag = is_within 1 65536 flag.tries ≡ true
+HasTries flag = is_within 1 most_tries flag.tries ≡ true
 
 flag_yields : Yields flag_form HasTries
 unfolding flag_form
 flag_yields =
     yields-bind (hex 8) _ Any HasTries (yields-any (hex 8)) (λ address _.
     yields-bind (hex 8) _ Any HasTries (yields-any (hex 8)) (λ value _.
-    yields-bind (decimal 1 65536) _ (λ n. is_within 1 65536 n ≡ true) HasTries (yields-word (decimal_of 1 65536) (λ n. is_within 1 65536 n ≡ true) (decimal-within 1 65536)) (λ tries within.
+    yields-bind (decimal 1 most_tries) _ (λ n. is_within 1 most_tries n ≡ true) HasTries (yields-word (decimal_of 1 most_tries) (λ n. is_within 1 most_tries n ≡ true) (decimal-within 1 most_tries)) (λ tries within.
     yields-give (record { address = address; value = value; tries = tries }) HasTries within)))
 
 device_yields : Yields device_form IsFormedLine

@@ -4,6 +4,7 @@ use Rattle.std.specs.List.{list_all}
 use Rattle.std.proofs.lemmas.Bool.{and_from, le-leb, leb-true}
 use Rattle.std.proofs.lemmas.Bool.Decides.{nat_tests}
 use Rattle.pci_command.specs.declared.phases.Phase.{Phase}
+use Rattle.board_model.specs.Limits.{most_dwords}
 use Rattle.board_model.specs.WellFormed.{is_within, is_well_formed_phase, is_well_formed_op}
 use Rattle.board_parser.specs.draft.Formed.{is_formed_op}
 use Rattle.dma_agents.specs.declared.put.Put.{Put}
@@ -182,9 +183,9 @@ write_formed p block bytes touched behind =
     let count : ℕ = dwords_in p block in
     let long = length_phases p count first in
     let aligned : eqb (first % 4) 0 ≡ true = grind (arith, nat_tests) in
-    let some : is_within 1 8 count ≡ true = grind (arith, nat_tests, touched, behind, bytes) in
+    let some : is_within 1 most_dwords count ≡ true = grind (arith, nat_tests, touched, behind, bytes) in
     let inside : nat_le (first % 64 + 4 * count) 64 ≡ true = grind (arith, nat_tests, touched, behind) in
-    let F : ℕ → Bool = λ n. is_within 1 8 n && nat_le (first % 64 + 4 * n) 64 in
+    let F : ℕ → Bool = λ n. is_within 1 most_dwords n && nat_le (first % 64 + 4 * n) 64 in
     let burst : F (length (phases_from p count first)) ≡ true = ap F long ∙ and_from _ _ some inside in
     and_from _ _ (and_from _ _ aligned burst) (phases_formed p count first)
 
@@ -203,8 +204,8 @@ write_read p block bytes touched behind =
     let first : ℕ = first_in p block in
     let count : ℕ = dwords_in p block in
     let long = length_phases p count first in
-    let some : is_within 1 8 count ≡ true = grind (arith, nat_tests, touched, behind, bytes) in
-    let F : ℕ → Bool = λ n. is_within 1 8 n in
+    let some : is_within 1 most_dwords count ≡ true = grind (arith, nat_tests, touched, behind, bytes) in
+    let F : ℕ → Bool = λ n. is_within 1 most_dwords n in
     and_from _ _ (ap F long ∙ some) (phases_formed p count first)
 
 blocks_read : (p : Put) (count block : ℕ) → 1 ≤ p.length → p.address < 32 * block + 32 → 32 * (block + count) < p.address + p.length + 32 → list_all is_formed_op (writes_from p count block) ≡ true

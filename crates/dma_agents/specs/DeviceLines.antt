@@ -1,6 +1,7 @@
 -- The lines of devices, by their words.
 use Rattle.std.specs.Prelude.{ℕ, List, Option, Some, None, Result, Ok, Err, codes, nat_le, if◌then◌else◌}
 use Rattle.std.specs.Str.{bytes_eq}
+use Rattle.board_model.specs.Limits.{most_tries}
 use Rattle.board_model.specs.Names.{is_name}
 use Rattle.text_faults.specs.declared.board_line.LineFault.{LineFault}
 use Rattle.text_faults.specs.declared.board_line.LineFault.TheVariants.{WrongWord, IllFormed}
@@ -19,7 +20,7 @@ unfoldable pub flag_form : Reader Flag
 flag_form = do
   address ← hex 8
   value ← hex 8
-  tries ← decimal 1 65536
+  tries ← decimal 1 most_tries
   give (record { address = address; value = value; tries = tries })
 
 -- `device NAME on TARGET bell ADDR VALUE TRIES`, behind its first word

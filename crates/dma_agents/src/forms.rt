@@ -9,7 +9,7 @@ ghost use Rattle.dma_agents.specs.DeviceLines.{word_form, form_behind, device_li
 
 use crate::messages::message;
 use crate::{DeviceLine, Flag, Put};
-use board_model::Name;
+use board_model::{MOST_TRIES, Name};
 use board_statements::{Words, is_word};
 use text_faults::LineFault;
 
@@ -156,7 +156,7 @@ fn flag(words: &mut Words) -> Result<Flag, LineFault>
 {
     let address = words.hex()?;
     let value = words.hex()?;
-    let tries = words.decimal(1, 65_536)?;
+    let tries = words.decimal(1, MOST_TRIES)?;
     Ok(Flag {
         address,
         value,

@@ -4,6 +4,7 @@ use Rattle.std.specs.List.{AllByRecursion}
 use Rattle.std.proofs.lemmas.List.{reverse-reverse, reverse-append}
 use Rattle.std.proofs.lemmas.Option.{slice_get_within}
 use Rattle.std.proofs.Math.Seq.{drop-append_seam}
+use Rattle.board_model.specs.Limits.{most_waiting}
 use Rattle.board_model.specs.declared.bridge.Bridge.{Bridge}
 use Rattle.board_model.specs.declared.bridge.Lane.{Lane as BridgeLane}
 use Rattle.board_model.specs.declared.board.Board.{Board}
@@ -266,7 +267,7 @@ module _ {End : Type 0} (had sent got : End → List Item) (kept : End → ℕ) 
         let found = apart_after.bridges k v at.port lane here at.lane_is in
         let sent_there : sent near ≡ done.puts lane = other.sent_is ∙ puts_back lane in
         let O : ℕ → List Item → List Item → List Item → Type 0 = λ n a b c. GotInOrder a b c n in
-        let L : List Item → List Item → List Item → Type 0 = λ a b c. left_count a b c ≤ 32 in
+        let L : List Item → List Item → List Item → Type 0 = λ a b c. left_count a b c ≤ most_waiting in
         let first = three_same (O (kept near)) (had far) (got far) (sent near) (hand lane) (Got lane) (done.puts lane) one.had_is one.got_is sent_there order in
         let second = three_same (O (kept far)) (had near) (got near) (sent far) (hand (lane_back lane)) (Got (lane_back lane)) (done.puts (lane_back lane)) other.had_is other.got_is one.sent_is order_back in
         let room = phase_room carried stamp_of board received hand Got done.puts Part worked valid lane found.0 (kept near) (kept far) found.1 first second in (

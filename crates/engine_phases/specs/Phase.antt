@@ -2,6 +2,7 @@
 use Rattle.std.specs.Prelude.{◌≡◌, ℕ, ◌+◌, ◌<◌, ◌≤◌, Bool, true, false, List, ◌++◌, length, map, reverse, max, Some, slice_get}
 use Rattle.std.specs.List.{AllByRecursion}
 use Rattle.list_facts.specs.Lists.{total}
+use Rattle.board_model.specs.Limits.{most_waiting}
 use Rattle.board_model.specs.declared.bridge.Bridge.{Bridge}
 use Rattle.board_model.specs.declared.bridge.Lane.{Lane as BridgeLane}
 use Rattle.board_model.specs.declared.board.Board.{Board}
@@ -86,7 +87,7 @@ pub record AllMaySettle {End : Type 0} (had sent got : End → List Item) (kept 
       → paired far near
   pub fits : (k m : ℕ) (w v : WorkerView End) (lane : BridgeLane) (far near : End) → slice_get workers k ≡ Some w → slice_get workers m ≡ Some v → EndAt w lane far → EndAt v (lane_back lane) near
       → GotInOrder (had far) (got far) (sent near) (kept near) → GotInOrder (had near) (got near) (sent far) (kept far)
-      → (left_count (had far) (got far) (sent near) ≤ 32) × (left_count (had near) (got near) (sent far) ≤ 32)
+      → (left_count (had far) (got far) (sent near) ≤ most_waiting) × (left_count (had near) (got near) (sent far) ≤ most_waiting)
 
 -- a lane is settled: what its near end sent, and its far end did not get, is in hand at the far end
 pub record LaneSettled {End : Type 0} (had sent got : End → List Item) (kept : End → ℕ) (paired : End → End → Type 0) (far near far_after near_after : End) : Type 0 where

@@ -4,6 +4,7 @@ use Rattle.std.specs.Vec.{vec_capacity}
 use Rattle.std.proofs.lemmas.Bool.{eqb-true, eqb-false}
 use Rattle.std.proofs.lemmas.List.{length-set}
 use Rattle.std.proofs.lemmas.Option.{slice_get_within}
+use Rattle.board_model.specs.Limits.{room_of_a_turn}
 use Rattle.board_model.specs.declared.board.Board.{Board}
 use Rattle.board_model.specs.Valid.{IsValid}
 use Rattle.history_model.specs.declared.event.Stamped.{Stamped}
@@ -77,7 +78,7 @@ not_true true is = cc
 not_true false is = refl
 
 pub room_left : {End : Type 0} (old mid : Worker End) → vec_capacity mid.segment.events ≡ vec_capacity old.segment.events → mid.segment.events.items ≡ old.segment.events.items → 8192 ≤ vec_capacity old.segment.events - vec_len old.segment.events
-    → 512 ≤ vec_capacity mid.segment.events - vec_len mid.segment.events
+    → room_of_a_turn ≤ vec_capacity mid.segment.events - vec_len mid.segment.events
 room_left old mid capacity items room =
     let mine : vec_len mid.segment.events ≡ length mid.segment.events.items = mid.segment.events.ok.0 in
     let other : vec_len old.segment.events ≡ length old.segment.events.items = old.segment.events.ok.0 in
@@ -95,7 +96,7 @@ module _ {End : Type 0} (had sent got : End → List Item) (kept : End → ℕ) 
       ∙ (ap (λ e. W old.segment.bus (max old.segment.stamp phase) old.segment.stopped e mid.segment.events.items) ends
       ∙ ap (λ l. W old.segment.bus (max old.segment.stamp phase) old.segment.stopped old.segment.ends.items l) events)))
 
-  pub begun_may : IsValid board → IsReady (seen old) → 512 ≤ vec_capacity mid.segment.events - vec_len mid.segment.events → MayTurn board mid
+  pub begun_may : IsValid board → IsReady (seen old) → room_of_a_turn ≤ vec_capacity mid.segment.events - vec_len mid.segment.events → MayTurn board mid
   begun_may valid ready room =
       let ports : length mid.segment.bus.ports ≡ length old.segment.bus.ports = ap (λ (s : BusView). length s.ports) bus in
       let masters : length mid.segment.bus.masters ≡ length old.segment.bus.masters = ap (λ (s : BusView). length s.masters) bus in

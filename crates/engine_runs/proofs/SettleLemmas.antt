@@ -2,6 +2,7 @@
 use Rattle.std.proofs.Common.{◌≡◌, ◌≢◌, ℕ, ◌+◌, ◌<◌, ◌≤◌, ◌==◌, Bool, true, false, List, length, Some, refl, sym, ap, subst, ◌∙◌, arith, slice_get}
 use Rattle.std.proofs.lemmas.Bool.{eqb-true, eqb-false}
 use Rattle.std.proofs.lemmas.Option.{slice_get_within}
+use Rattle.board_model.specs.Limits.{most_waiting}
 use Rattle.board_model.specs.declared.bridge.Lane.{Lane as BridgeLane}
 use Rattle.board_model.specs.Ways.{lane_back}
 use Rattle.lane_items.specs.declared.item.Item.{Item}
@@ -116,7 +117,7 @@ module _ {End : Type 0} (had sent got : End → List Item) (kept : End → ℕ) 
                 (may.pairs up.worker (i + 1) is_above.upper is_above.lower (up_from bus) first.0 second.0 is_above.upper_is is_above.lower_is first_at second_at));
             fits = λ a b here there.
                 let P : End → End → Type 0 = λ x y. GotInOrder (had y) (got y) (sent x) (kept x) → GotInOrder (had x) (got x) (sent y) (kept y)
-                → (left_count (had y) (got y) (sent x) ≤ 32) × (left_count (had x) (got x) (sent y) ≤ 32) in
+                → (left_count (had y) (got y) (sent x) ≤ most_waiting) × (left_count (had x) (got x) (sent y) ≤ most_waiting) in
                 let fits : P first.0 second.0 =
                 may.fits (i + 1) up.worker is_above.lower is_above.upper (down_to bus) second.0 first.0 is_above.lower_is is_above.upper_is second_at first_at in
                 subst (λ x. P x b) (first_same a here) (subst (P first.0) (second_same b there) fits);

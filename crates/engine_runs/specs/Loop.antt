@@ -1,5 +1,6 @@
 -- The loop over the phases: what its calls do with the workers.
 use Rattle.std.specs.Prelude.{◌≡◌, ℕ, ◌<◌, ◌≤◌, Bool, true, false, List, length, map, Some, slice_get}
+use Rattle.board_model.specs.Limits.{most_agents, most_ports}
 use Rattle.board_model.specs.declared.board.Board.{Board}
 use Rattle.lane_items.specs.declared.item.Item.{Item}
 use Rattle.bus_segment.specs.Stands.{WorkerView}
@@ -25,8 +26,8 @@ all_seen {End} workers = map (λ (w : Worker End). seen w) workers
 pub record IsReady {End : Type 0} (w : WorkerView End) : Type 0 where
   pub going : w.segment.stopped ≡ false
   pub one_a_port : length w.ends ≡ length w.segment.bus.ports
-  pub few_ports : length w.segment.bus.ports ≤ 9
-  pub few_masters : length w.segment.bus.masters ≤ 8
+  pub few_ports : length w.segment.bus.ports ≤ most_ports
+  pub few_masters : length w.segment.bus.masters ≤ most_agents
   pub counts : ArrivedUpTo (length w.events) w.segment.bus
 
 -- so may all

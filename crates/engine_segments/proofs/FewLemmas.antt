@@ -1,7 +1,7 @@
--- On a bus of a well-formed board there are at most eight bridges below it and eight masters.
-use Rattle.std.proofs.Common.{◌≡◌, ℕ, zero, suc, ◌+◌, ◌≤◌, ◌==◌, ◌&&◌, nat_le, nat_lt, Bool, true, false, cond, List, [], ◌∷◌, ◌++◌, length, map, count_by, ◌⊎◌, inl, inr, Option, Some, refl, sym, ap, subst, ◌∙◌, arith, add-one, add-zero, length-append, if◌then◌else◌, slice_get}
-use Rattle.std.specs.List.{filter, range_with_len, list_all, list_any}
-use Rattle.std.proofs.lemmas.Bool.{and_parts, leb-true, eqb-true}
+-- On a bus of a well-formed board there are few bridges below it and few masters.
+use Rattle.std.proofs.Common.{◌≡◌, ℕ, zero, suc, ◌+◌, ◌≤◌, ◌==◌, ◌&&◌, nat_lt, Bool, true, false, cond, List, [], ◌∷◌, ◌++◌, length, map, count_by, inl, inr, Option, Some, refl, sym, ap, subst, ◌∙◌, arith, add-one, add-zero, length-append, if◌then◌else◌, slice_get}
+use Rattle.std.specs.List.{filter, range_with_len, list_any}
+use Rattle.std.proofs.lemmas.Bool.{and_parts}
 use Rattle.std.proofs.lemmas.Bool.Decides.{nat_tests}
 use Rattle.std.proofs.lemmas.List.{length-map}
 use Rattle.std.proofs.lemmas.List.Recursion.{is_sum_by}
@@ -9,13 +9,15 @@ use Rattle.list_facts.specs.Lists.{total}
 use Rattle.list_facts.proofs.AnyLemmas.{any_some, found_any, total_falls}
 use Rattle.list_facts.proofs.FindLemmas.{find_passes}
 use Rattle.list_facts.proofs.TotalLemmas.{total-le}
+use Rattle.board_model.specs.Limits.{most_children, most_agents, most_ports}
 use Rattle.board_model.specs.declared.agents.Master.{Master}
 use Rattle.board_model.specs.declared.bridge.Bridge.{Bridge}
 use Rattle.board_model.specs.declared.board.Board.{Board}
 use Rattle.board_model.specs.Valid.{has_bridge_to}
 use Rattle.board_model.specs.Ways.{primary_in, primary_of}
-use Rattle.board_model.specs.WellFormed.{is_well_formed, children_on, agents_on}
+use Rattle.board_model.specs.WellFormed.{is_well_formed, children_on}
 use Rattle.board_model.proofs.Laws.{WellFormed-parts}
+use Rattle.board_model.proofs.FewLemmas.{none_or_few, few_masters_on}
 use Rattle.history_model.specs.Answers.{is_on}
 use Rattle.engine_segments.specs.First.{is_below, children_of, lanes_to, masters_on, up_from}
 use Rattle.engine_segments.proofs.NumberLemmas.{passing_more, passing_skipped}
@@ -23,21 +25,6 @@ use Rattle.engine_segments.proofs.NumberLemmas.{passing_more, passing_skipped}
 -- as many as pass
 total-count : {X : Type 0} (test : X → Bool) (xs : List X) → total (λ x. cond (test x) 1 0) xs ≡ count_by test xs
 total-count test xs = is_sum_by (total (λ x. cond (test x) 1 0)) (λ x. cond (test x) 1 0) refl (λ _ _. refl) xs
-
--- where at most eight are counted on the bus of each element, at most eight are counted on a bus, or none is there
-none_or_few : {X : Type 0} (number : X → ℕ) (count : ℕ → ℕ) (bus : ℕ) (xs : List X) → list_all (λ x. nat_le (count (number x)) 8) xs ≡ true
-    → (total (λ x. cond (number x == bus) 1 0) xs ≡ 0) ⊎ (count bus ≤ 8)
-none_or_few number count bus [] few = inl refl
-none_or_few number count bus (x ∷ xs) few =
-    let parts = and_parts (nat_le (count (number x)) 8) (list_all (λ y. nat_le (count (number y)) 8) xs) few in
-    let later = none_or_few number count bus xs parts.1 in
-    let rest = total (λ y. cond (number y == bus) 1 0) xs in
-    let P : Bool → Type 0 = λ b. (number x == bus) ≡ b → (cond b 1 0 + rest ≡ 0) ⊎ (count bus ≤ 8) in
-    let Q : ℕ → Type 0 = λ n. count n ≤ 8 in
-    (elim (number x == bus) as P [
-      | true ↦ λ same. inr (subst Q (eqb-true (number x) bus same) (leb-true _ _ parts.0))
-      | false ↦ λ _. elim later as (λ _. (0 + rest ≡ 0) ⊎ (count bus ≤ 8)) [ inl none ↦ inl (omega (arith, none)) | inr most ↦ inr most ]
-    ]) refl
 
 -- Bridges below a bus.
 
@@ -95,23 +82,23 @@ module _ (board : Board) (bus : ℕ) where
   any_lower n b true = grind (arith, nat_tests)
   any_lower n b false = grind (arith, nat_tests)
 
-  few_children : is_well_formed board ≡ true → length (children_of board bus) ≤ 8
+  few_children : is_well_formed board ≡ true → length (children_of board bus) ≤ most_children
   unfolding children_of
   few_children formed =
       let form = WellFormed-parts board formed in
       let below = counted 256 in
       let all = total-le (lower 256) (λ (b : Bridge). cond (IsChild b) 1 0) (λ (b : Bridge). any_lower 256 b.bus (IsChild b)) board.bridges in
       let count = total-count IsChild board.bridges in
-      elim (none_or_few (λ (b : Bridge). b.parent) (children_on board) bus board.bridges form.few.bridges) as (λ _. length (filter (is_below board bus) (range_with_len 0 256)) ≤ 8) [
-        | inl none ↦ omega (arith, below, all, count, none)
+      elim (none_or_few (λ (b : Bridge). b.parent) (children_on board) most_children bus board.bridges form.few.bridges) as (λ _. length (filter (is_below board bus) (range_with_len 0 256)) ≤ most_children) [
+        | inl none ↦ let nothing : total (λ (b : Bridge). cond (IsChild b) 1 0) board.bridges ≡ 0 = none in omega (arith, below, all, nothing)
         | inr most ↦ omega (arith, below, all, count, most)
       ]
 
-  pub few_lanes : is_well_formed board ≡ true → length (lanes_to board bus) ≤ 9
+  pub few_lanes : is_well_formed board ≡ true → length (lanes_to board bus) ≤ most_ports
   few_lanes formed =
       let few = few_children formed in
       let same = length-map (children_of board bus) up_from in
-      let P : Bool → Type 0 = λ own. length ((if own then record { bus = bus; up = false } ∷ [] else []) ++ map up_from (children_of board bus)) ≤ 9 in
+      let P : Bool → Type 0 = λ own. length ((if own then record { bus = bus; up = false } ∷ [] else []) ++ map up_from (children_of board bus)) ≤ most_ports in
       elim (has_bridge_to board bus) as P [ true ↦ omega (arith, few, same) | false ↦ omega (arith, few, same) ]
 
 -- Masters on a bus.
@@ -128,12 +115,9 @@ places_counted {X} place_test test same (x ∷ xs) a get gets =
     let P : Bool → Type 0 = λ b. length (cond b (a ∷ rest) rest) ≡ cond b 1 0 + more in
     ap (λ b. length (cond b (a ∷ rest) rest)) here ∙ elim (test x) as P [ true ↦ omega (arith, later) | false ↦ omega (arith, later) ]
 
-pub few_masters : (board : Board) (bus : ℕ) → is_well_formed board ≡ true → length (masters_on board bus) ≤ 8
+pub few_masters : (board : Board) (bus : ℕ) → is_well_formed board ≡ true → length (masters_on board bus) ≤ most_agents
 few_masters board bus formed =
     let form = WellFormed-parts board formed in
     let counted = places_counted (is_on bus) (λ (m : Master). m.bus == bus) (λ _. refl) board.masters 0 (slice_get board.masters) (λ k. ap (slice_get board.masters) (let e : 0 + k ≡ k = omega arith in e)) in
-    let count = total-count (λ (m : Master). m.bus == bus) board.masters in
-    elim (none_or_few (λ (m : Master). m.bus) (agents_on board) bus board.masters form.few.masters) as (λ _. length (masters_on board bus) ≤ 8) [
-      | inl none ↦ omega (arith, counted, none)
-      | inr most ↦ omega (arith, counted, count, most)
-    ]
+    let few : total (λ (m : Master). cond (m.bus == bus) 1 0) board.masters ≤ most_agents = few_masters_on board bus form.few in
+    omega (arith, counted, few)

@@ -4,6 +4,7 @@ use Rattle.std.specs.List.{AllByRecursion}
 use Rattle.std.proofs.lemmas.List.{length-map}
 use Rattle.list_facts.proofs.AnyLemmas.{any_some}
 use Rattle.list_facts.proofs.EachLemmas.{Each-weaker, Each-slice_get}
+use Rattle.board_model.specs.Limits.{most_agents, most_ports}
 use Rattle.board_model.specs.declared.bridge.Bridge.{Bridge}
 use Rattle.board_model.specs.declared.bridge.Lane.{Lane as BridgeLane}
 use Rattle.board_model.specs.declared.board.Board.{Board}
@@ -55,10 +56,10 @@ module _ (board : Board) (valid : IsValid board) (fit : AllByRecursion BridgeFit
   many_ports : length s.ports ≡ length (lanes_to board bus)
   many_ports = sym (length-map s.ports (λ (port : PortView). port.lane)) ∙ ap length first.ports.lanes_are
 
-  few_ports : length s.ports ≤ 9
+  few_ports : length s.ports ≤ most_ports
   few_ports = omega (arith, many_ports, few_lanes board bus valid.well_formed)
 
-  few_on : length s.masters ≤ 8
+  few_on : length s.masters ≤ most_agents
   few_on =
       let many = sym (length-map s.masters (λ (m : MasterView). m.master)) ∙ ap length first.masters.masters_are in
       omega (arith, many, few_masters board bus valid.well_formed)
@@ -70,8 +71,8 @@ module _ (board : Board) (valid : IsValid board) (fit : AllByRecursion BridgeFit
 
   lines : AreLines board (line_of (shape_of s)) (shape_of s)
   lines =
-      let lanes : length (shape_of s).lanes ≤ 9 = omega (arith, few_ports, length-map s.ports (λ (port : PortView). port.lane)) in
-      let masters : length (shape_of s).masters ≤ 8 = omega (arith, few_on, length-map s.masters (λ (m : MasterView). m.master)) in
+      let lanes : length (shape_of s).lanes ≤ most_ports = omega (arith, few_ports, length-map s.ports (λ (port : PortView). port.lane)) in
+      let masters : length (shape_of s).masters ≤ most_agents = omega (arith, few_on, length-map s.masters (λ (m : MasterView). m.master)) in
       shape_lines board (shape_of s) is_of lanes masters
 
   port_at : (n : ℕ) (port : PortView) → slice_get s.ports n ≡ Some port → PortStandsAtFirst board s.bus port

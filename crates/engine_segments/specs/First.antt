@@ -3,6 +3,7 @@
 use Rattle.std.specs.Prelude.{◌≡◌, ℕ, ◌≤◌, Bool, true, false, List, [], ◌∷◌, ◌++◌, length, map, Option, Some, None, ◌&&◌, ◌==◌, if◌then◌else◌, slice_get}
 use Rattle.std.specs.List.{AllByRecursion, filter, range_with_len}
 use Rattle.std.specs.List.Sorted.{IsStrictlyIncreasing}
+use Rattle.board_model.specs.Limits.{most_agents, most_ports}
 use Rattle.board_model.specs.declared.agents.Target.{Target}
 use Rattle.board_model.specs.declared.bridge.Lane.{Lane as BridgeLane}
 use Rattle.board_model.specs.declared.board.Board.{Board}
@@ -87,9 +88,9 @@ pub record IsAtFirst {End : Type 0} (board : Board) (s : WorkerView End) : Type 
   pub is_of : IsOf board (shape_of s.segment.bus)
   pub ends_there : (n : ℕ) (lane : BridgeLane) → slice_get (shape_of s.segment.bus).lanes n ≡ Some lane → end_of board lane ≡ s.segment.bus.bus
   pub one_a_port : length s.ends ≡ length s.segment.bus.ports
-  -- at most nine bridges and eight masters
-  pub few_ports : length s.segment.bus.ports ≤ 9
-  pub few_masters : length s.segment.bus.masters ≤ 8
+  -- few bridges and few masters
+  pub few_ports : length s.segment.bus.ports ≤ most_ports
+  pub few_masters : length s.segment.bus.masters ≤ most_agents
   -- nothing arrived, and nothing was done
   pub no_arrivals : AllByRecursion (λ count. count ≡ 0) (arrivals_at s.segment.bus)
   pub no_events : s.events ≡ []

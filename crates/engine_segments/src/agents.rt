@@ -12,7 +12,7 @@ use pci_command::NoMemory;
 use std::alloc::Global;
 
 /// The masters on the bus, in the order of the board.
-#[tactic(auto, using(board_model::proofs::claims::FewLemmas::few_masters_before, board_model::proofs::claims::FewLemmas::master_more))]
+#[tactic(auto, using(board_model::proofs::FewLemmas::few_masters_before, board_model::proofs::FewLemmas::master_more))]
 pub(crate) fn masters_on(
     alloc: Global,
     board: &Board,
@@ -23,7 +23,7 @@ pub(crate) fn masters_on(
 {
     let mut masters = Vec::new(alloc);
     for (place, master) in board.masters.as_slice().iter().enumerate() {
-        // It is one of 256 buses, with eight masters at most on each.
+        // It is one of 256 buses, with few masters on each.
         let _bus = master.bus;
         if is_on(board, bus, place as u16) {
             masters.push(MasterState::new(board, place as u16))?;
@@ -33,7 +33,7 @@ pub(crate) fn masters_on(
 }
 
 /// The targets on the bus, in the order of the board.
-#[tactic(auto, using(board_model::proofs::claims::FewLemmas::few_targets_before, board_model::proofs::claims::FewLemmas::target_more))]
+#[tactic(auto, using(board_model::proofs::FewLemmas::few_targets_before, board_model::proofs::FewLemmas::target_more))]
 pub(crate) fn targets_on(
     alloc: Global,
     board: &Board,
@@ -44,7 +44,7 @@ pub(crate) fn targets_on(
 {
     let mut targets = Vec::new(alloc);
     for (place, target) in board.targets.as_slice().iter().enumerate() {
-        // It is one of 256 buses, with eight targets at most on each.
+        // It is one of 256 buses, with few targets on each.
         let _bus = target.bus;
         if has_target(board, bus, place as u16) {
             targets.push(TargetState::new(alloc, board, place as u16)?)?;

@@ -14,6 +14,7 @@ use Rattle.board_model.specs.declared.bridge.Window.{Window}
 use Rattle.board_model.specs.declared.bridge.Bridge.{Bridge}
 use Rattle.board_model.specs.declared.board.Board.{Board}
 use Rattle.board_model.specs.HeaderBytes.{register_2}
+use Rattle.board_model.specs.Limits.{most_bridges, most_children, most_dwords}
 use Rattle.board_model.specs.WellFormed.{has_bus, registers_of, children_on}
 use Rattle.board_model.specs.Valid.{is_bus, spans_meet, window_meets, is_reached, last_of}
 use Rattle.board_headers.specs.declared.windows.Windows.{Windows}
@@ -146,7 +147,7 @@ are_buses_barred windows root board function =
 
 -- the bus has its eight bridges, or the board its 31
 unfoldable pub is_full : Board → ℕ → Bool
-is_full board bus = nat_le 8 (children_on board bus) || nat_le 31 (length board.bridges)
+is_full board bus = nat_le most_children (children_on board bus) || nat_le most_bridges (length board.bridges)
 
 -- the bridge of the function is on the board, or has no place there; of any other function nothing is asked
 abbrev pub is_bridge_kept : Root → List Function → Board → Function → Bool
@@ -261,7 +262,7 @@ is_plain_bridge bridge = bridge.posted == 4 && bridge.delayed == 4
 -- a target that claims ranges and no more
 abbrev pub is_plain_target : Target → Bool
 is_plain_target target =
-    target.stalls == 0 && (target.burst == 8 && (length target.aborts == 0 && length target.openings == 0))
+    target.stalls == 0 && (target.burst == most_dwords && (length target.aborts == 0 && length target.openings == 0))
 
 -- no masters, discards and drops; bridges and targets are plain
 abbrev pub has_nothing_else : Board → Bool

@@ -2,6 +2,7 @@ use crate::devices::device_number;
 use crate::header::byte_at;
 use crate::windows::{io_fate, memory_fate, prefetchable_fate};
 use crate::{BridgeFate, Buses, DevicePlace, Machine, NoBridge, TakenBridge};
+use board_model::{MOST_BRIDGES, MOST_CHILDREN};
 use import_text::Function;
 use pci_command::{List, NoMemory};
 use std::alloc::Global;
@@ -141,5 +142,5 @@ fn some_shares_buses(taken: &[TakenBridge], bus: u8, first: u8, last: u8) -> boo
 
 fn is_full(taken: &[TakenBridge], bus: u8) -> bool {
     let beside = taken.iter().filter(|bridge| bridge.parent == bus).count();
-    beside == 8 || taken.len() == 31
+    beside == MOST_CHILDREN || taken.len() == MOST_BRIDGES
 }

@@ -12,7 +12,7 @@ pub struct DevicePlace {
 /// the greatest that is neither in the text nor was given.
 pub fn device_number(machine: &Machine, given: &[DevicePlace], bus: u8, own: u8) -> Option<u8> {
     if is_given(given, bus, own) {
-        greatest_free(machine, given, bus, 32)
+        greatest_free(machine, given, bus, 32) // not a limit
     } else {
         Some(own)
     }

@@ -1,4 +1,4 @@
-use board_model::Window;
+use board_model::{MOST_BRIDGES, MOST_CHILDREN, Window};
 use std::fmt;
 
 /// The buses from the first to the last.
@@ -95,7 +95,11 @@ impl fmt::Display for NoBridge {
                 write!(f, "its buses {buses}{behind}")
             }
             NoBridge::SharedBuses(buses) => write!(f, "another bridge has buses of {buses}"),
-            NoBridge::Full => f.write_str("there are 8 bridges on its bus or 31 on the board"),
+            NoBridge::Full => write!(
+                f,
+                "there are {} bridges on its bus or {} on the board",
+                MOST_CHILDREN, MOST_BRIDGES
+            ),
             NoBridge::NoDevice => f.write_str("no device number is free"),
         }
     }

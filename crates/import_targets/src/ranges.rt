@@ -15,7 +15,7 @@ fn unit_of(space: Space) -> u64
     ensures few { result ≤ 64 }
 {
     match space {
-        Space::Mem => 64,
+        Space::Mem => 64, // not a limit
         Space::Io => 4,
         Space::Cfg => 1,
     }

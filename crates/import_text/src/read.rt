@@ -27,7 +27,7 @@ fn repeated(alloc: Global, functions: &[Function]) -> Result<Option<u32>, NoMemo
 fn lacks_row(function: &Function) -> bool
     ensures { result ≡ lacks_row function.now }
 {
-    function.header.as_slice().len() != 64
+    function.header.as_slice().len() != 64 // not a limit
 }
 
 /// The line of the first function without one of its four rows.
@@ -43,7 +43,7 @@ fn lacking(functions: &[Function]) -> Option<u32>
 fn has_high_device(function: &Function) -> bool
     ensures { result ≡ has_high_device function.now }
 {
-    function.slot.device > 31
+    function.slot.device > 31 // not a limit
 }
 
 /// The line of the first function with a device number that no bus has.

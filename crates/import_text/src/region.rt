@@ -17,7 +17,7 @@ fn indent(line: &[u8]) -> usize
     if byte_at(line, 0) == b'\t' {
         1
     } else if begins_with(b"        ", line) {
-        8
+        8 // not a limit
     } else {
         0
     }
@@ -150,8 +150,8 @@ fn is_region(text: &[u8]) -> bool
     begins_with(b"Region ", text)
         && b'0' <= byte_at(text, 7)
         && byte_at(text, 7) <= b'5'
-        && byte_at(text, 8) == b':'
-        && byte_at(text, 9) == b' '
+        && byte_at(text, 8) == b':' // not a limit
+        && byte_at(text, 9) == b' ' // not a limit
 }
 
 /// The size that a region line tells.

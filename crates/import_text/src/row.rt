@@ -79,8 +79,8 @@ fn bytes_in(alloc: Global, text: &[u8]) -> Result<List<u8>, NoMemory>
         byte_in(text, 5),
         byte_in(text, 6),
         byte_in(text, 7),
-        byte_in(text, 8),
-        byte_in(text, 9),
+        byte_in(text, 8), // not a limit
+        byte_in(text, 9), // not a limit
         byte_in(text, 10),
         byte_in(text, 11),
         byte_in(text, 12),

@@ -19,7 +19,7 @@ fn has_domain(line: &[u8]) -> bool
     ensures { result ≡ has_domain line.now }
 {
     let digits = hex_length(line);
-    4 <= digits && digits <= 8 && byte_at(line, digits) == b':'
+    4 <= digits && digits <= 8 && byte_at(line, digits) == b':' // not a limit
 }
 
 /// Where bus, device and function begin.
@@ -37,7 +37,7 @@ fn domain_in(line: &[u8]) -> u32
     ensures { result ≡ domain_in line.now }
 {
     if has_domain(line) {
-        number_or_zero(&line[..hex_length(line)], 8)
+        number_or_zero(&line[..hex_length(line)], 8) // not a limit
     } else {
         0
     }
@@ -95,7 +95,7 @@ pub(crate) fn name_of(alloc: Global, line: &[u8]) -> Result<List<u8>, NoMemory>
     ensures { IfOk result (λ name. name ≡ name_of line.now) }
 {
     let place = behind(line, place_start(line));
-    let rest = behind(place, 8);
+    let rest = behind(place, 8); // not a limit
     shown_bytes(alloc, first(rest, 160))
 }
 

@@ -4,6 +4,7 @@ use Rattle.std.specs.List.{find}
 use Rattle.std.proofs.lemmas.List.{take_more, take-append-drop, reverse-append}
 use Rattle.pci_command.specs.declared.op_id.OpId.{OpId}
 use Rattle.pci_command.specs.declared.op_id.Outcome.{Outcome}
+use Rattle.board_model.specs.Limits.{most_posted, most_delayed}
 use Rattle.board_model.specs.declared.bridge.Lane.{Lane as BridgeLane}
 use Rattle.board_model.specs.declared.bridge.Place.{Place}
 use Rattle.board_model.specs.declared.bridge.Place.TheVariants.{Target, Header, Lane, Nobody}
@@ -25,7 +26,7 @@ use Rattle.history_model.specs.declared.rule.Rule.TheVariants.{Tagged}
 use Rattle.history_model.specs.World.{noted, slot_found, is_own, enters, lane_outcome, world_by, world_of}
 use Rattle.history_model.specs.Runs.{Run, RunBy, history_of}
 use Rattle.law_lanes.specs.Depths.{Within}
-use Rattle.law_lanes.proofs.rules.Laws.{Within-eight_by}
+use Rattle.law_lanes.proofs.rules.Laws.{Within-limits_by}
 use Rattle.law_lanes.proofs.Laws.{WellFormed-depths, Run-before}
 use Rattle.judge_lanes.specs.Bridge.{lanes_of, turned, moved_on, place_on, leaves_on, initiator_on, lanes_after}
 use Rattle.judge_lanes.specs.Room.{HasRoom, HaveRoom}
@@ -151,7 +152,7 @@ counted_after n rule board (Act on by o step place) bus x counted =
     (counted_initiator n board by o step bus (place_on board on (noted rule by) o step place bus x) (counted_place n board on (noted rule by) o step place bus x counted))
 counted_after n rule board (Arrive lane mark) bus x counted = counted_arrives n mark lane bus x counted
 
-lane_room : (lane : LaneState) → Within 8 8 lane → lane.asks + 1 < 2 ^ 64 → lane.dones + 1 < 2 ^ 64 → HasRoom 2 lane
+lane_room : (lane : LaneState) → Within most_posted most_delayed lane → lane.asks + 1 < 2 ^ 64 → lane.dones + 1 < 2 ^ 64 → HasRoom 2 lane
 lane_room lane within asks dones =
     record {
       asks = asks;
@@ -169,8 +170,8 @@ room_after rule board h bus n formed run counted small =
     let down : BridgeLane = record { bus = bus; up = false } in
     let up : BridgeLane = record { bus = bus; up = true } in
     let depths = WellFormed-depths board formed in (
-      lane_room (world_by rule board h down) (Within-eight_by rule board h down depths run) (omega (arith, counted.asks_here)) (omega (arith, counted.dones_here)),
-      lane_room (world_by rule board h up) (Within-eight_by rule board h up depths run) (omega (arith, counted.asks_back)) (omega (arith, counted.dones_back)),
+      lane_room (world_by rule board h down) (Within-limits_by rule board h down depths run) (omega (arith, counted.asks_here)) (omega (arith, counted.dones_here)),
+      lane_room (world_by rule board h up) (Within-limits_by rule board h up depths run) (omega (arith, counted.asks_back)) (omega (arith, counted.dones_back)),
     )
 
 -- the front of a run is a run

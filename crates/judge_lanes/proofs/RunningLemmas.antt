@@ -7,7 +7,7 @@ use Rattle.board_model.specs.Valid.{IsValid}
 use Rattle.board_tree.proofs.DecodableLemmas.{IsDecodable-valid}
 use Rattle.history_model.specs.declared.event.Event.{Event}
 use Rattle.history_model.specs.Runs.{Run}
-use Rattle.law_lanes.proofs.Laws.{Within-eight, WellFormed-depths}
+use Rattle.law_lanes.proofs.Laws.{Within-limits, WellFormed-depths}
 use Rattle.judge_lanes.specs.Running.{IsRunning}
 use Rattle.board_model.proofs.Laws.{WellFormed-parts}
 
@@ -24,5 +24,5 @@ IsRunning-valid board h valid run =
       short = not_above 500000 (bound_of board) valid.bound;
       discards = form.discards_fit;
       drops = form.drops_fit;
-      lanes = λ lane. Within-eight board h lane (WellFormed-depths board valid.well_formed) run;
+      lanes = λ lane. Within-limits board h lane (WellFormed-depths board valid.well_formed) run;
     }

@@ -1,5 +1,6 @@
 -- A run of a valid board, and what bounds the numbers of its events.
 use Rattle.std.specs.Prelude.{◌≤◌, List, length, IsTrue}
+use Rattle.board_model.specs.Limits.{most_posted, most_delayed, most_plans}
 use Rattle.board_model.specs.declared.bridge.Lane.{Lane as BridgeLane}
 use Rattle.board_model.specs.declared.board.Board.{Board}
 use Rattle.board_model.specs.WellFormed.{is_well_formed}
@@ -17,7 +18,7 @@ pub record IsRunning (board : Board) (h : List Event) : Type 0 where
   pub run : Run board h
   -- a run has few events, and few lines are discards or drops
   pub short : bound_of board ≤ 500000
-  pub discards : length board.discards ≤ 1024
-  pub drops : length board.drops ≤ 1024
+  pub discards : length board.discards ≤ most_plans
+  pub drops : length board.drops ≤ most_plans
   -- little is on a lane
-  pub lanes : (lane : BridgeLane) → Within 8 8 (world_of board h lane)
+  pub lanes : (lane : BridgeLane) → Within most_posted most_delayed (world_of board h lane)

@@ -12,6 +12,7 @@ ghost use Rattle.pci_command.specs.Command.{is_read};
 ghost use Rattle.board_model.specs.Requests.{is_posted};
 ghost use Rattle.history_model.specs.Answers.{posted_answer, delayed_answer, completion_answer};
 ghost use Rattle.judge_lanes.specs.Room.{HasRoom};
+ghost use Rattle.board_model.specs.Limits.{most_in_flight, most_standing};
 
 use crate::lane_tables::LaneTables;
 use board_model::{Board, Bridge, Lane, Place, is_posted};
@@ -314,7 +315,7 @@ fn take(
 
 /// The oldest standing item of the operation ends: it leaves, and its answer goes back.
 fn end(op: OpId, outcome: Outcome, here: &mut LaneTables, back: &mut LaneTables) -> Option<Carried>
-    requires { length back.old.flight < 34 }
+    requires { length back.old.flight < most_in_flight + 2 }
     ensures value { let before : Both = record { here = here.old; back = back.old } in
         let after : Both = record { here = here.new; back = back.new } in
         after ≡ item_ends op outcome before }
@@ -347,8 +348,8 @@ fn arrive(mark: Mark, here: &mut LaneTables, back: &mut LaneTables) -> Option<Ca
 
 /// What the arrival of the item does.
 fn take_effect(mark: Mark, item: Carried, here: &mut LaneTables, back: &mut LaneTables)
-    requires standing { length here.old.standing < 26 }
-    requires flight { length back.old.flight < 34 }
+    requires standing { length here.old.standing < most_standing + 2 }
+    requires flight { length back.old.flight < most_in_flight + 2 }
     ensures { let before : Both = record { here = here.old; back = back.old } in
         let after : Both = record { here = here.new; back = back.new } in
         after ≡ takes_effect (effect_of mark item) item before }

@@ -5,12 +5,22 @@ ghost use Rattle.list_facts.specs.Lists.{less};
 ghost use Rattle.history_model.specs.Lanes.{is_of, is_done_for, has_number, asks_in};
 ghost use Rattle.history_model.specs.Lanes.{dones_in, lowest_free, lowest_free_from};
 ghost use Rattle.history_model.specs.Moves.{oldest};
+ghost use Rattle.board_model.specs.Limits.{most_posted, most_delayed, most_in_flight, most_standing};
 
 use arrayvec::ArrayVec;
+use board_model::{MOST_DELAYED, MOST_IN_FLIGHT, MOST_STANDING};
 use history_model::{By, Carried, Slot};
 use machine_steps::{place_of_completion, place_of_request};
 use pci_command::OpId;
 use std::marker::Model;
+
+/// Places for items in flight and standing, and for held slots: for those that a lane may have, and
+/// two more, which one event may bring.
+const FLIGHT: usize = MOST_IN_FLIGHT + 2;
+
+const STANDING: usize = MOST_STANDING + 2;
+
+const HELD: usize = MOST_DELAYED as usize + 2;
 
 /// One lane of a bridge, and what the bridge's face where it begins keeps of it. It takes no
 /// memory.
@@ -18,9 +28,9 @@ use std::marker::Model;
 pub struct LaneTables {
     asks: u64,
     dones: u64,
-    flight: ArrayVec<Carried, 34>,
-    standing: ArrayVec<Carried, 26>,
-    held: ArrayVec<Slot, 10>,
+    flight: ArrayVec<Carried, FLIGHT>,
+    standing: ArrayVec<Carried, STANDING>,
+    held: ArrayVec<Slot, HELD>,
     owed: u8,
 }
 
@@ -100,7 +110,7 @@ impl LaneTables {
 
     /// An item is sent.
     pub(crate) fn send(&mut self, item: Carried)
-        requires { length self.old.flight < 34 }
+        requires { length self.old.flight < most_in_flight + 2 }
         ensures { self.new ≡ record self.old { flight = self.old.flight ++ item ∷ [] } }
     {
         self.flight.push(item);
@@ -108,7 +118,7 @@ impl LaneTables {
 
     /// A posted write more is owed.
     pub(crate) fn owe(&mut self)
-        requires { self.old.owed < 10 }
+        requires { self.old.owed < most_posted + 2 }
         ensures { self.new ≡ record self.old { owed = self.old.owed + 1 } }
     {
         self.owed += 1;
@@ -124,7 +134,7 @@ impl LaneTables {
     /// The lowest free slot is held for the operation and the local master that presented it. The
     /// answer is its number.
     pub(crate) fn hold(&mut self, by: By, op: OpId) -> u8
-        requires { length self.old.held < 10 }
+        requires { length self.old.held < most_delayed + 2 }
         ensures number { result ≡ lowest_free self.old.held }
         ensures held { self.new ≡ record self.old {
           held = self.old.held ++
@@ -151,7 +161,7 @@ impl LaneTables {
 
     /// An item stands, behind the others.
     pub(crate) fn stand(&mut self, item: Carried)
-        requires { length self.old.standing < 26 }
+        requires { length self.old.standing < most_standing + 2 }
         ensures { self.new ≡ record self.old { standing = self.old.standing ++ item ∷ [] } }
     {
         self.standing.push(item);
@@ -228,7 +238,7 @@ fn place_of_slot(held: &[Slot], number: u8) -> Option<usize>
 /// The lowest number that no held slot has.
 #[tactic(auto, using(crate::proofs::FreeLemmas::one_more, crate::proofs::FreeLemmas::all_held))]
 fn lowest_free(held: &[Slot]) -> u8
-    requires { length held.now < 10 }
+    requires { length held.now < most_delayed + 2 }
     ensures { result ≡ lowest_free held.now }
 {
     let mut number = 0;

@@ -82,14 +82,14 @@ fn list(lanes: &mut Vec<Lane>, board: &Board, bus: u8, lane: Lane) -> Result<(),
 }
 
 /// Its masters, in the order of the board.
-#[tactic(auto, using(board_model::proofs::claims::FewLemmas::few_masters_before, board_model::proofs::claims::FewLemmas::master_more))]
+#[tactic(auto, using(board_model::proofs::FewLemmas::few_masters_before, board_model::proofs::FewLemmas::master_more))]
 fn masters_on(alloc: Global, board: &Board, bus: u8) -> Result<Vec<u16>, NoMemory>
     requires { IsTrue (is_well_formed board.now) }
     ensures { IfOk result (λ masters. masters.items ≡ masters_below (length board.now.masters) board.now bus) }
 {
     let mut masters = Vec::new(alloc);
     for (index, master) in board.masters.as_slice().iter().enumerate() {
-        // It is one of 256 buses, with eight masters at most on each.
+        // It is one of 256 buses, with few masters on each.
         let _bus = master.bus;
         if is_on(board, bus, index as u16) {
             masters.push(index as u16)?;

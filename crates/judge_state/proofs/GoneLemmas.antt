@@ -7,6 +7,7 @@ use Rattle.pci_command.specs.declared.command.Space.{Space}
 use Rattle.pci_command.specs.declared.command.Space.TheVariants.{Mem, Io, Cfg}
 use Rattle.pci_command.specs.Same.{same_op}
 use Rattle.pci_command.specs.declared.op_id.OpId.{OpId}
+use Rattle.board_model.specs.Limits.{most_dwords}
 use Rattle.board_model.specs.declared.agents.Master.{Master as MasterAgent}
 use Rattle.board_model.specs.declared.bridge.Place.{Place}
 use Rattle.board_model.specs.declared.op.Op.{Op}
@@ -213,7 +214,7 @@ gone_fits rule board h gone (Act on by p (Part n) place) were small run allowed 
       | Some q ↦ λ is_q _.
           let most = small (Act on by p (Part n) place ∷ h) p q (allowed, run) is_q in
           let self : same_op p p ≡ true = self_same p in
-          let sums : n + through h p ≤ 8 = subst (λ (b : Bool). (if b then n else 0) + through h p ≤ 8) self most in
+          let sums : n + through h p ≤ most_dwords = subst (λ (b : Bool). (if b then n else 0) + through h p ≤ most_dwords) self most in
           let now : gone_in gone p ≡ through h p = ap or_zero (were p q is_q) in
           omega (arith, sums, now)
     ]) refl allowed.1

@@ -3,6 +3,7 @@ use Rattle.std.specs.Prelude.{◌≡◌, ◌-◌, ◌≤◌, ◌<◌, ◌^◌, �
 use Rattle.pci_command.specs.declared.op_id.OpId.{OpId}
 use Rattle.pci_command.specs.declared.request.Request.{Request}
 use Rattle.pci_command.specs.Command.{space_of, is_read}
+use Rattle.board_model.specs.Limits.{most_dwords}
 use Rattle.board_model.specs.declared.agents.Target.{Target as TargetAgent}
 use Rattle.board_model.specs.declared.bridge.Place.TheVariants.{Target}
 use Rattle.board_model.specs.declared.op.Op.{Op}
@@ -68,4 +69,4 @@ pub record StandsFew (board : Board) (k : KeptState) : Type 0 where
 
 -- under a rule: of no operation more than eight data phases went through
 abbrev pub PartsAreSmallBy : Rule → Board → Type 0
-PartsAreSmallBy rule board = (h : List Event) (o : OpId) (op : Op) → RunBy rule board h → op_of board o ≡ Some op → through h o ≤ 8
+PartsAreSmallBy rule board = (h : List Event) (o : OpId) (op : Op) → RunBy rule board h → op_of board o ≡ Some op → through h o ≤ most_dwords

@@ -32,14 +32,14 @@ impl KeptTurns {
     ghost use Rattle.judge_state.specs.State.{turn_in, flat, turns_next};
 
     /// The first operation of each program.
-    #[tactic(auto, using(board_model::proofs::claims::FewLemmas::few_masters_before, board_model::proofs::claims::FewLemmas::master_more))]
+    #[tactic(auto, using(board_model::proofs::FewLemmas::few_masters_before, board_model::proofs::FewLemmas::master_more))]
     pub(crate) fn new(alloc: Global, board: &Board) -> Result<KeptTurns, NoMemory>
         requires { IsTrue (is_well_formed board.now) }
         ensures { IfOk result (TurnsAtFirst board.now) }
     {
         let mut turns = Vec::new(alloc);
         for (index, master) in board.masters.as_slice().iter().enumerate() {
-            // It is one of 256 buses, with eight masters at most on each.
+            // It is one of 256 buses, with few masters on each.
             let _bus = master.bus;
             turns.push(first_turn(board, index as u16))?;
         }

@@ -11,6 +11,7 @@ use Rattle.history_model.specs.declared.item.Carried.TheVariants.{Post, Ask, Don
 use Rattle.history_model.specs.declared.item.Slot.{Slot}
 use Rattle.list_facts.proofs.TotalLemmas.{total-alike}
 use Rattle.list_facts.proofs.FindLemmas.{length-less}
+use Rattle.board_model.specs.Limits.{most_posted, most_delayed}
 use Rattle.board_model.specs.declared.bridge.Bridge.{Bridge}
 use Rattle.board_model.specs.declared.bridge.Lane.{Lane as BridgeLane}
 use Rattle.board_model.specs.declared.board.Board.{Board}
@@ -25,7 +26,7 @@ use Rattle.history_model.specs.Lanes.{LaneState, Both, empty_lane, has_number, l
 use Rattle.law_lanes.specs.Slots.{slot_weight, ask_weight, done_weight, gone_weight, Slots}
 use Rattle.law_lanes.specs.Credits.{post_count, room_count, Credits}
 use Rattle.law_lanes.specs.Standing.{CanStand}
-use Rattle.law_lanes.specs.Depths.{Within, DifferentNumbers, DepthsToEight}
+use Rattle.law_lanes.specs.Depths.{Within, DifferentNumbers, DepthsInLimits}
 use Rattle.law_lanes.proofs.NumberLemmas.{bridge_found}
 use Rattle.history_model.proofs.facts.BridgeLemmas.{flip, both_back}
 use Rattle.law_lanes.proofs.LowestFreeLemmas.{lowest_free-le}
@@ -182,13 +183,13 @@ within_more posted delayed p d lane more_posted more_delayed w =
 pub within_empty : (posted delayed : ℕ) → Within posted delayed empty_lane
 within_empty posted delayed = record { owed = omega arith; held = omega arith; numbers = tt; flight = omega arith; standing = omega arith }
 
-pub Within-eight : (board : Board) (h : List Event) (lane : BridgeLane) → DepthsToEight board → Run board h → Within 8 8 (world_of board h lane)
-Within-eight board h lane eight run =
-    let D : Bridge → Type 0 = λ bridge. (bridge.posted ≤ 8) × (bridge.delayed ≤ 8) in
-    let P : Option Bridge → Type 0 = λ found. bridge_to board lane.bus ≡ found → Within 8 8 (world_of board h lane) in
+pub Within-limits : (board : Board) (h : List Event) (lane : BridgeLane) → DepthsInLimits board → Run board h → Within most_posted most_delayed (world_of board h lane)
+Within-limits board h lane eight run =
+    let D : Bridge → Type 0 = λ bridge. (bridge.posted ≤ most_posted) × (bridge.delayed ≤ most_delayed) in
+    let P : Option Bridge → Type 0 = λ found. bridge_to board lane.bus ≡ found → Within most_posted most_delayed (world_of board h lane) in
     (elim (bridge_to board lane.bus) as P [
-      | None ↦ λ none. subst (Within 8 8) (sym (Quiet-empty board h lane (run_no_bridge board lane.bus h none run))) (within_empty 8 8)
+      | None ↦ λ none. subst (Within most_posted most_delayed) (sym (Quiet-empty board h lane (run_no_bridge board lane.bus h none run))) (within_empty most_posted most_delayed)
       | Some bridge ↦ λ is.
           let depths = Each-find D (λ (bridge : Bridge). bridge.bus == lane.bus) board.bridges bridge eight is in
-          within_more bridge.posted bridge.delayed 8 8 (world_of board h lane) depths.0 depths.1 (Within-run board h lane bridge is run)
+          within_more bridge.posted bridge.delayed most_posted most_delayed (world_of board h lane) depths.0 depths.1 (Within-run board h lane bridge is run)
     ]) refl

@@ -6,7 +6,7 @@ pub use Rattle.law_lanes.proofs.OneItemLemmas.{HasOneItem-each, GoneHeld-each}
 -- a lane owes the posted writes on it and those whose credit is on its way
 pub use Rattle.law_lanes.proofs.CreditsLemmas.{Credits-run}
 -- the depths of a bridge bound what is on its lanes
-pub use Rattle.law_lanes.proofs.DepthsLemmas.{Within-run, Within-each, Within-eight}
+pub use Rattle.law_lanes.proofs.DepthsLemmas.{Within-run, Within-each, Within-limits}
 -- what stands before in a run is a run
 pub use Rattle.law_lanes.proofs.PrefixLemmas.{Run-before}
 -- what stands on a lane

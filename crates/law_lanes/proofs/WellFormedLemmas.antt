@@ -10,13 +10,14 @@ use Rattle.pci_command.specs.declared.command.Command.TheVariants.{IoRead, IoWri
 use Rattle.pci_command.specs.declared.phases.Phase.{Phase}
 use Rattle.pci_command.specs.Command.{plain_of}
 use Rattle.pci_command.specs.Same.{same_command}
+use Rattle.board_model.specs.Limits.{most_posted, most_delayed}
 use Rattle.board_model.specs.declared.agents.Master.{Master}
 use Rattle.board_model.specs.declared.bridge.Bridge.{Bridge}
 use Rattle.board_model.specs.declared.op.Op.{Op}
 use Rattle.board_model.specs.declared.op.Op.TheVariants.{Read, Write, CfgRead, CfgWrite, Poll}
 use Rattle.board_model.specs.declared.board.Board.{Board}
 use Rattle.board_model.specs.WellFormed.{is_well_formed_bridge, write_space, is_well_formed_write, is_well_formed_op, is_well_formed_master, has_bus, are_numbered_apart, is_well_formed}
-use Rattle.law_lanes.specs.Depths.{same_number, DifferentNumbers, DepthsToEight}
+use Rattle.law_lanes.specs.Depths.{same_number, DifferentNumbers, DepthsInLimits}
 use Rattle.law_lanes.specs.Phases.{IsPostedOrSingle, DelayedAreSingle}
 use Rattle.board_model.proofs.Laws.{WellFormed-parts, Bridge-parts, Master-parts}
 
@@ -60,10 +61,10 @@ op_single (Poll space address mask value tries) well = λ delayed. omega arith
 pub WellFormed-numbers : (board : Board) → is_well_formed board ≡ true → DifferentNumbers board
 WellFormed-numbers board well = apart_distinct board.bridges (WellFormed-parts board well).numbered_apart
 
-pub WellFormed-depths : (board : Board) → is_well_formed board ≡ true → DepthsToEight board
+pub WellFormed-depths : (board : Board) → is_well_formed board ≡ true → DepthsInLimits board
 WellFormed-depths board well =
     let P : Bridge → Type 0 = λ bridge. is_well_formed_bridge bridge ≡ true in
-    let Q : Bridge → Type 0 = λ bridge. (bridge.posted ≤ 8) × (bridge.delayed ≤ 8) in
+    let Q : Bridge → Type 0 = λ bridge. (bridge.posted ≤ most_posted) × (bridge.delayed ≤ most_delayed) in
     let few : (bridge : Bridge) → P bridge → Q bridge = λ bridge formed. let form = Bridge-parts bridge formed in (form.posted.to, form.delayed.to) in
     Each-weaker P Q few board.bridges (Each-list_all is_well_formed_bridge board.bridges (WellFormed-parts board well).bridges)
 

@@ -2,6 +2,7 @@
 -- management).
 use Rattle.std.specs.Prelude.{ℕ, Bool, ◌+◌, ◌*◌, ◌<◌, ◌≤◌, ◌==◌, length}
 use Rattle.std.specs.List.{AllByRecursion, IsDistinct}
+use Rattle.board_model.specs.Limits.{most_posted, most_delayed}
 use Rattle.board_model.specs.declared.bridge.Bridge.{Bridge}
 use Rattle.board_model.specs.declared.board.Board.{Board}
 use Rattle.history_model.specs.Lanes.{LaneState}
@@ -26,6 +27,6 @@ same_number a b = a.bus == b.bus
 abbrev pub DifferentNumbers : Board → Type 0
 DifferentNumbers board = IsDistinct same_number board.bridges
 
--- a depth is at most eight
-abbrev pub DepthsToEight : Board → Type 0
-DepthsToEight board = AllByRecursion (λ (bridge : Bridge). (bridge.posted ≤ 8) × (bridge.delayed ≤ 8)) board.bridges
+-- each depth is one that may be written
+abbrev pub DepthsInLimits : Board → Type 0
+DepthsInLimits board = AllByRecursion (λ (bridge : Bridge). (bridge.posted ≤ most_posted) × (bridge.delayed ≤ most_delayed)) board.bridges

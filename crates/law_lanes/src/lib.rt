@@ -32,12 +32,13 @@ ghost use Rattle.law_lanes.specs.Slots.{Slots, HasOneItem, GoneHeld};
 ghost use Rattle.law_lanes.specs.Standing.{CanStand};
 ghost use Rattle.law_lanes.specs.Credits.{Credits};
 ghost use Rattle.law_lanes.specs.Quiet.{enters_at};
-ghost use Rattle.law_lanes.specs.Depths.{Within, DifferentNumbers, DepthsToEight};
+ghost use Rattle.law_lanes.specs.Depths.{Within, DifferentNumbers, DepthsInLimits};
 ghost use Rattle.law_lanes.specs.Phases.{DelayedAreSingle};
 ghost use Rattle.law_lanes.specs.Latched.{Latched};
 ghost use Rattle.law_lanes.specs.Kinds.{RightKind};
 ghost use Rattle.law_lanes.specs.Owners.{Owners, TakesItsOwn};
 ghost use Rattle.board_model.specs.Ways.{lane_back};
+ghost use Rattle.board_model.specs.Limits.{most_posted, most_delayed};
 
 pub mod moves;
 pub mod order;
@@ -50,7 +51,7 @@ pub use order::{
     posts_are_on_their_way, posts_are_one, posts_keep_their_order, sent_is_received,
 };
 pub use progress::{next_goes_on, runs_go_on};
-pub use rules::{asked_on_way, depths_to_eight, parts, quiet_bridges_by_rule};
+pub use rules::{asked_on_way, depths_in_limits, parts, quiet_bridges_by_rule};
 
 /// The slots at the near face of each lane and their items: each held slot has its item in exactly
 /// one of five places, each item has its slot held for the operation that it names, and no number
@@ -79,8 +80,8 @@ pub fn credits()
 {}
 
 /// The depths of a bridge bound what is on each of its lanes. A bridge is found by its number,
-/// which no other has; and where no depth is above eight, at most eight posted writes are owed,
-/// eight slots held, 32 items in flight and 24 standing on any lane.
+/// which no other has; and where each depth is one that may be written, what is on any lane is
+/// bounded by the greatest of these.
 pub fn depths()
     ensures of_bridge { (board : Board) (h : List Event) (lane : BridgeLane) (bridge : Bridge) →
         bridge_to board lane.bus ≡ Some bridge → Run board h →
@@ -92,8 +93,8 @@ pub fn depths()
     ensures of_each { (board : Board) (h : List Event) → DifferentNumbers board → Run board h →
         AllByRecursion (λ (bridge : Bridge). (up : Bool) → Within bridge.posted bridge.delayed
         (world_of board h (record { bus = bridge.bus; up = up }))) board.bridges }
-    ensures to_eight { (board : Board) (h : List Event) (lane : BridgeLane) →
-        DepthsToEight board → Run board h → Within 8 8 (world_of board h lane) }
+    ensures in_limits { (board : Board) (h : List Event) (lane : BridgeLane) →
+        DepthsInLimits board → Run board h → Within most_posted most_delayed (world_of board h lane) }
 {}
 
 /// What stands before in a run is a run: of a history, newest event first, each end of the list.
@@ -177,9 +178,9 @@ pub fn lawful()
 {}
 
 /// A well-formed board is one of those that the laws speak of: its bridges have different numbers,
-/// no depth is above eight, and each operation that is not posted has at most one data phase.
+/// each depth is one that may be written, and each operation that is not posted has at most one data phase.
 pub fn well_formed_boards()
     ensures numbers { (board : Board) → is_well_formed board ≡ true → DifferentNumbers board }
-    ensures depths { (board : Board) → is_well_formed board ≡ true → DepthsToEight board }
+    ensures depths { (board : Board) → is_well_formed board ≡ true → DepthsInLimits board }
     ensures single { (board : Board) → is_well_formed board ≡ true → DelayedAreSingle board }
 {}

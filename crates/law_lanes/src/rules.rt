@@ -17,9 +17,10 @@ ghost use Rattle.history_model.specs.World.{world_by};
 ghost use Rattle.history_model.specs.Words.{through};
 ghost use Rattle.history_model.specs.Answers.{bridge_to, wants_by};
 ghost use Rattle.history_model.specs.Runs.{RunBy};
-ghost use Rattle.law_lanes.specs.Depths.{Within, DepthsToEight};
+ghost use Rattle.law_lanes.specs.Depths.{Within, DepthsInLimits};
 ghost use Rattle.law_lanes.specs.Phases.{DelayedAreSingle};
 ghost use Rattle.law_lanes.specs.rules.AskedWay.{AskedWay};
+ghost use Rattle.board_model.specs.Limits.{most_posted, most_delayed};
 
 /// Nothing is on the lanes of no bridge.
 pub fn quiet_bridges_by_rule()
@@ -28,11 +29,11 @@ pub fn quiet_bridges_by_rule()
         world_by rule board h lane ≡ empty_lane }
 {}
 
-/// Where no depth of a bridge is above eight, at most eight posted writes are owed, eight slots
-/// held, 32 items in flight and 24 standing on any lane.
-pub fn depths_to_eight()
+/// Where each depth of a bridge is one that may be written, what is on any lane is bounded by the
+/// greatest of these.
+pub fn depths_in_limits()
     ensures { (rule : Rule) (board : Board) (h : List Event) (lane : BridgeLane) →
-        DepthsToEight board → RunBy rule board h → Within 8 8 (world_by rule board h lane) }
+        DepthsInLimits board → RunBy rule board h → Within most_posted most_delayed (world_by rule board h lane) }
 {}
 
 /// As long as parts of an operation go through, data phases are left. So no delayed request goes

@@ -25,6 +25,7 @@ ghost use Rattle.law_local.specs.phases.Engine.{known_at_end};
 ghost use Rattle.law_local.specs.room.Room.{Puts};
 ghost use Rattle.law_local.specs.phases.Taken.{HasItsKind, NextIsTaken, NeverBack};
 ghost use Rattle.law_local.specs.phases.Taken.{NothingTurnsBack, BusesAreQuiet, AllGetARetry};
+ghost use Rattle.board_model.specs.Limits.{most_in_flight};
 
 /// What all buses did up to now, in the order of the stamps, is a run; and of what was put on each
 /// lane just that is in flight which did not arrive.
@@ -70,8 +71,8 @@ pub fn phases_have_room()
         bridge_to board lane.bus ≡ Some bridge →
         GotInOrder (hand lane) (got lane) (sent lane) kept → GotInOrder (hand (lane_back lane))
         (got (lane_back lane)) (sent (lane_back lane)) kept_back →
-        (left_count (hand lane) (got lane) (sent lane) ≤ 32) ×
-        (left_count (hand (lane_back lane)) (got (lane_back lane)) (sent (lane_back lane)) ≤ 32) }
+        (left_count (hand lane) (got lane) (sent lane) ≤ most_in_flight) ×
+        (left_count (hand (lane_back lane)) (got (lane_back lane)) (sent (lane_back lane)) ≤ most_in_flight) }
 {}
 
 /// When all lanes brought their items in order, what all buses did up to now is a run, also where

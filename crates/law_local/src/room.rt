@@ -16,6 +16,7 @@ ghost use Rattle.lane_items.specs.declared.item.Item.{Item};
 ghost use Rattle.lane_items.specs.Lane.{GotInOrder, left_count, Crosses};
 ghost use Rattle.law_local.specs.room.Sides.{Side, HasDepths};
 ghost use Rattle.law_local.specs.room.Room.{TwoRuns, Leaves, HasRoom, Puts, LaneInPhase};
+ghost use Rattle.board_model.specs.Limits.{most_in_flight};
 
 /// By what a bus did and what came to it, it has put on a lane that begins there no more than its
 /// credits, its slots and what came on the lane back allow.
@@ -28,13 +29,14 @@ pub fn buses_keep_their_side()
         Side posted delayed (came (lane_back lane)) (both (local_world board came p) lane) }
 {}
 
-/// Of two buses that each kept its side of their bridge at most 32 items are left on each of its
-/// lanes: twice as many as it takes posted writes and delayed requests each way.
+/// Of two buses that each kept its side of their bridge at most as many items are left on each of
+/// its lanes as may be in flight: twice as many as it takes posted writes and delayed requests each
+/// way.
 pub fn lanes_have_room()
-    ensures to_32 { (board : Board) (came : ℕ → BridgeLane → List Carried) (part : ℕ → List Event)
+    ensures in_limits { (board : Board) (came : ℕ → BridgeLane → List Carried) (part : ℕ → List Event)
         (lane : BridgeLane) (left left_back : List Carried) →
         IsValid board → Leaves board came part lane left left_back →
-        HasRoom 32 board came part lane left left_back }
+        HasRoom most_in_flight board came part lane left left_back }
     ensures of_bridge { (board : Board) (came : ℕ → BridgeLane → List Carried)
         (part : ℕ → List Event) (lane : BridgeLane) (left left_back : List Carried)
         (bridge : Bridge) →
@@ -43,18 +45,18 @@ pub fn lanes_have_room()
         HasRoom (2 * bridge.posted + 2 * bridge.delayed) board came part lane left left_back }
 {}
 
-/// A bus whose next event would put one more item on a lane finds fewer than 32 left there. So it
-/// need not look whether there is room.
+/// A bus whose next event would put one more item on a lane finds fewer left there than may be in
+/// flight. So it need not look whether there is room.
 pub fn full_lanes_take_no_more()
     ensures { (board : Board) (came : ℕ → BridgeLane → List Carried) (part : ℕ → List Event)
         (lane : BridgeLane) (left left_back : List Carried) (e : Event) →
         IsValid board → Leaves board came part lane left left_back → Puts board came part lane e →
-        length left < 32 }
+        length left < most_in_flight }
 {}
 
 /// So two ends of a bridge may be settled, by what their own two buses did: if on both lanes the
-/// items were got in the order of their sending, at most 32 are left on each, and fewer than 32
-/// where the bus could put one more there.
+/// items were got in the order of their sending, at most as many are left on each as may be in
+/// flight, and fewer where the bus could put one more there.
 pub fn settle_has_room()
     ensures at_most { (carries : Item → Carried) (board : Board)
         (came : ℕ → BridgeLane → List Carried) (part : ℕ → List Event) (lane : BridgeLane)
@@ -64,7 +66,7 @@ pub fn settle_has_room()
         LaneInPhase carries board came part lane before had got sent → LaneInPhase carries board
         came part (lane_back lane) before_back had_back got_back sent_back →
         GotInOrder had got sent kept → GotInOrder had_back got_back sent_back kept_back →
-        (left_count had got sent ≤ 32) × (left_count had_back got_back sent_back ≤ 32) }
+        (left_count had got sent ≤ most_in_flight) × (left_count had_back got_back sent_back ≤ most_in_flight) }
     ensures fewer { (carries : Item → Carried) (board : Board)
         (came : ℕ → BridgeLane → List Carried) (part : ℕ → List Event) (lane : BridgeLane)
         (before had got sent before_back had_back got_back sent_back : List Item)

@@ -1,7 +1,7 @@
 use crate::ground::Ground;
 use crate::programs::Draft;
 use crate::words::{Further, further_of, further_words};
-use board_model::{Master, Name, Opening, Range, Target};
+use board_model::{MOST_DWORDS, Master, Name, Opening, Range, Target};
 use observe_told::Unfound;
 use pci_command::{List, NoMemory};
 use std::alloc::Global;
@@ -54,7 +54,7 @@ fn copy_target(
         vendor: target.vendor,
         model: target.model,
         stalls: 0,
-        burst: 8,
+        burst: MOST_DWORDS as u8,
         ranges: copy_ranges(alloc, &target.ranges)?,
         aborts: copy_ranges(alloc, &target.aborts)?,
         openings: List::from_vec(openings),

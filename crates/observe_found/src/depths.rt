@@ -2,12 +2,9 @@ use crate::errands::Errands;
 use crate::ground::{Ground, number};
 use crate::slots::{Change, note_changes, overflows, slots_of};
 use crate::streams::Streams;
-use board_model::{Bridge, Lane, Planned};
+use board_model::{Bridge, Lane, MOST_POSTED, Planned};
 use observe_told::{Ending, Note, Unfound, bump};
 use pci_command::NoMemory;
-
-/// How many posted writes a bridge may hold one way.
-const MOST_POSTED: u32 = 8;
 
 /// Lists which completions are discarded: those of far errands that are not the last of their near
 /// ones, and where else more slots were held than there are those that nobody took to the end.
@@ -154,7 +151,7 @@ impl Held {
                 return Ok(0);
             }
             self.bring(ground, streams, *line);
-            if self.most > MOST_POSTED {
+            if self.most > u32::from(MOST_POSTED) {
                 return Err(Unfound::TooManyPieces { line: *line });
             }
         }

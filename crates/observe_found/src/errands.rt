@@ -4,14 +4,12 @@ ghost use Rattle.std.specs.Cmp.Rules.{hashing};
 ghost use Rattle.std.proofs.Common.{rules};
 
 use crate::ground::{Ground, NO_TIME, number};
+use crate::streams::MOST_LANES;
 use observe_told::{Ending, MaybeOp, MaybePlace, Seen, Who, bump};
 use pci_command::{NoMemory, OpId};
 use std::collections::HashMap;
 use std::collections::hash_map::Entry;
 use std::hash::{Hash, Hasher};
-
-/// How many lanes a way has at most.
-const MOST_LANES: u32 = 64;
 
 /// All that one request of one initiator did on a bus: some Retries, and at most one end. An
 /// initiator that has no data must ask again for the same.

@@ -10,7 +10,7 @@ pub(crate) const NO_PLACE: u32 = u32::MAX;
 /// Behind each time.
 pub(crate) const NO_TIME: u64 = u64::MAX;
 /// Above each address of configuration space: of a device that is not there.
-const NO_DEVICE: u64 = 1 << 40;
+const NO_DEVICE: u64 = 1 << 40; // not a limit
 
 /// Whether a Retry may have latched a request that went on at the very time at which the Retry
 /// began.

@@ -12,7 +12,7 @@ use pci_command::NoMemory;
 
 /// How often the pairing is tried at most, each time with other orders of trying: of many errands
 /// less often, so that it is not done for more than so many in all.
-const MOST_TIMES: usize = 64;
+const MOST_TIMES: usize = 64; // not a limit
 
 const MOST_ERRANDS: usize = 2_000_000;
 

@@ -1,5 +1,6 @@
 use crate::ground::Ground;
 use crate::streams::Streams;
+use board_model::MOST_DWORDS;
 use pci_command::NoMemory;
 
 /// Data phases of a burst that are one operation: the first, and the one behind the last.
@@ -10,7 +11,7 @@ pub(crate) struct Piece {
 }
 
 /// The operations of a burst: it is cut where a bus of its way began or ended a transaction between
-/// two of its data phases, at each multiple of 64, and behind each eight.
+/// two of its data phases, at each multiple of 64, and behind as many as a burst may have.
 pub(crate) fn pieces(
     ground: &Ground,
     streams: &Streams,
@@ -21,8 +22,8 @@ pub(crate) fn pieces(
     let mut begin = first;
     for phase in first..end {
         let is_cut = streams.track(phase).is_cut
-            || ground.address_of(phase) % 64 == 0
-            || begin.saturating_add(8) <= phase;
+            || ground.address_of(phase) % 64 == 0 // not a limit
+            || begin.saturating_add(MOST_DWORDS as u32) <= phase;
         if is_cut && begin < phase {
             pieces.push(Piece {
                 first: begin,

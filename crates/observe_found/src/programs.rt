@@ -2,18 +2,11 @@ use crate::errands::{Errand, Errands};
 use crate::ground::{Ground, NO_PLACE, number};
 use crate::pieces::{Piece, pieces};
 use crate::streams::Streams;
-use board_model::{Master, Name, Op, Place};
+use board_model::{MOST_AGENTS, MOST_DWORDS, MOST_OPS, MOST_TRIES, Master, Name, Op, Place};
 use observe_told::{Addressed, Ending, Seen, Unfound, Who};
 use pci_command::{Command, List, NoMemory, OpId, Phase, Phases};
 use std::alloc::Global;
 use std::collections::BTreeMap;
-
-/// How many agents a bus has at most, how many operations a master, and all masters.
-const MOST_AGENTS: usize = 8;
-
-const MOST_OPS: usize = 1024;
-
-const MOST_OPS_IN_ALL: usize = 65_536;
 
 /// What an operation is of: data phases of a posted line, the first and the one behind the last;
 /// what a posted line did not transfer; a delayed line, and of a read which of its dwords.
@@ -289,7 +282,7 @@ impl Programs {
             return Err(too_many);
         };
         let index = draft.ops.len();
-        if index >= MOST_OPS || self.total >= MOST_OPS_IN_ALL {
+        if index >= MOST_OPS || self.total >= MOST_TRIES as usize {
             return Err(too_many);
         }
         draft.ops.push(op)?;
@@ -324,7 +317,7 @@ fn write_of(ground: &Ground, seen: &Seen, piece: Piece) -> Op {
     let mut phases = Phases::new();
     for phase in piece.first..piece.end {
         if let Some(phase) = ground.phases.get(phase as usize) {
-            if phases.len() < 8 {
+            if phases.len() < MOST_DWORDS {
                 phases.push(*phase);
             }
         }
@@ -409,5 +402,5 @@ fn absent_device(ground: &Ground, bus: u8) -> u8 {
     (0..32u8)
         .rev()
         .find(|device| !ground.has_device(bus, *device))
-        .unwrap_or(31)
+        .unwrap_or(31) // not a limit
 }

@@ -1,15 +1,15 @@
 use crate::ground::{Ground, number};
-use board_model::Lane;
+use board_model::{Lane, MOST_BRIDGES, MOST_DWORDS, MOST_POSTED};
 use observe_told::{BusPlaces, Ending, HeldPhase, MaybeOp, MaybePlace, Unfound};
 use pci_command::{NoMemory, OpId, Phase};
 use std::alloc::Global;
 use std::collections::{BTreeMap, VecDeque};
 
-/// Among how many data phases that nothing has taken a match is looked for: a bridge of this
-/// machine holds eight writes of eight.
-const MOST_HELD: usize = 1024;
-/// How many lanes a way has at most.
-const MOST_LANES: u32 = 64;
+/// Among how many data phases that nothing has taken a match is looked for: sixteen times those
+/// that a bridge of this machine holds one way.
+const MOST_HELD: usize = 16 * MOST_POSTED as usize * MOST_DWORDS;
+/// How many lanes a way has at most: each bridge up and down, and one more each way.
+pub(crate) const MOST_LANES: u32 = 2 * (1 + MOST_BRIDGES as u32);
 
 /// What is known of a data phase, of which there are many: of one that a lane drove that of the near
 /// bus that it is; of one that a lane took which line of the far bus took it away, and whether it

@@ -227,7 +227,7 @@ impl<'a> Trial<'a> {
             } else if sides.settle(errands, held, fars, nears, strictness) {
                 return Ok(true);
             } else {
-                steps = steps.saturating_add(fars.len() / 64);
+                steps = steps.saturating_add(fars.len() / 64); // not a limit
             }
             if steps > most {
                 break;

@@ -1,12 +1,9 @@
 use crate::ground::{Ground, address_of_line};
-use board_model::{Opening, Place};
+use board_model::{MOST_OPENINGS, Opening, Place};
 use observe_told::{Seen, Unfound, Who};
 use pci_command::{NoMemory, Phase, Space};
 use std::alloc::Global;
 use std::collections::HashMap;
-
-/// How many opening words a target has at most.
-const MOST_OPENINGS: usize = 256;
 
 /// A dword of a target, in memory or I/O.
 #[derive(Clone, Copy, PartialEq, Eq, PartialOrd, Ord, Hash)]
@@ -227,5 +224,5 @@ fn looked_at<'a>(ground: &'a Ground, seen: &Seen) -> &'a [Phase] {
 /// The bits of the bytes that are enabled.
 fn bytes_of(enables: u8) -> u32 {
     let byte = |bit: u8, bits: u32| if enables & bit == 0 { 0 } else { bits };
-    byte(1, 0xff) | byte(2, 0xff00) | byte(4, 0xff_0000) | byte(8, 0xff00_0000)
+    byte(1, 0xff) | byte(2, 0xff00) | byte(4, 0xff_0000) | byte(8, 0xff00_0000) // not a limit
 }

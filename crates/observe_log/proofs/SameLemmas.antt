@@ -1,6 +1,7 @@
 -- Things are the same where their parts are.
 use Rattle.std.proofs.Common.{◌≡◌, ℕ, ◌≤◌, Bool, Option}
 use Rattle.pci_command.specs.declared.command.Space.{Space}
+use Rattle.board_model.specs.Limits.{most_posted}
 use Rattle.board_model.specs.declared.agents.Range.{Range}
 use Rattle.board_model.specs.declared.agents.Opening.{Opening}
 use Rattle.board_model.specs.declared.bridge.Window.{Window}
@@ -25,7 +26,7 @@ opening_from one other space address value =
     let same : made one.space one.address one.value ≡ made other.space other.address other.value = cc in
     same
 
-pub raised_from : (seen raised : Bridge) → SameNumbers seen raised → SameWindows seen raised → seen.posted ≤ raised.posted → raised.posted ≤ 8 → IsRaised seen raised
+pub raised_from : (seen raised : Bridge) → SameNumbers seen raised → SameWindows seen raised → seen.posted ≤ raised.posted → raised.posted ≤ most_posted → IsRaised seen raised
 raised_from seen raised numbers windows more most = record {
   same =
       let made : ℕ → ℕ → ℕ → ℕ → Option Window → Option Window → Option Window → ℕ → ℕ → Bool → Bridge =

@@ -2,6 +2,7 @@
 use Rattle.std.specs.Prelude.{◌≡◌, ℕ, ◌≤◌, Bool, true, false, List, [], ◌∷◌, length, take, drop, Option, Some, None, ◌&&◌, ◌||◌, ◌==◌, nat_le, nat_lt, slice_get}
 use Rattle.std.specs.List.{list_all, list_any}
 use Rattle.std.specs.Str.{bytes_eq}
+use Rattle.board_model.specs.Limits.{most_posted, most_dwords}
 use Rattle.board_model.specs.declared.agents.Master.{Master}
 use Rattle.board_model.specs.declared.agents.Target.{Target}
 use Rattle.board_model.specs.declared.op.Op.{Op}
@@ -20,7 +21,7 @@ Paired P (x ∷ xs) (y ∷ ys) = P x y × Paired P xs ys
 pub record IsRaised (seen raised : Bridge) : Type 0 where
   pub same : raised ≡ record seen { posted = raised.posted }
   pub more : seen.posted ≤ raised.posted
-  pub most : raised.posted ≤ 8
+  pub most : raised.posted ≤ most_posted
 
 -- all numbers but of posted writes
 pub record SameNumbers (seen raised : Bridge) : Type 0 where
@@ -48,7 +49,7 @@ pub record IsOpened (seen opened : Target) : Type 0 where
   pub aborts : opened.aborts ≡ seen.aborts
   pub openings : take (length seen.openings) opened.openings ≡ seen.openings
   pub stalls : opened.stalls ≡ 0
-  pub burst : opened.burst ≡ 8
+  pub burst : opened.burst ≡ most_dwords
 
 -- the same master, with a program
 pub record HasProgram (seen master : Master) : Type 0 where

@@ -7,7 +7,9 @@ ghost use Rattle.observe_log.specs.SeenBoards.{is_thread_of, AreMasters, IsSeenB
 ghost use Rattle.observe_log.specs.SeenBoards.{is_master, is_no_poll, polls_nothing};
 ghost use Rattle.observe_log.specs.SeenBoards.{SameNumbers, SameWindows};
 
-use board_model::{Board, Bridge, Master, Op, Opening, Range, Target, Window};
+use board_model::{
+    Board, Bridge, MOST_DWORDS, MOST_POSTED, Master, Op, Opening, Range, Target, Window,
+};
 use pci_command::Space;
 
 /// Whether it is the board of what was seen on the board of a log.
@@ -39,7 +41,7 @@ fn is_raised(seen: &Bridge, raised: &Bridge) -> bool
     same_numbers(seen, raised)
         && same_windows(seen, raised)
         && seen.posted <= raised.posted
-        && raised.posted <= 8
+        && raised.posted <= MOST_POSTED
 }
 
 fn same_numbers(seen: &Bridge, raised: &Bridge) -> bool
@@ -93,7 +95,7 @@ fn is_opened(seen: &Target, opened: &Target) -> bool
         && opened.vendor == seen.vendor
         && opened.model == seen.model
         && opened.stalls == 0
-        && opened.burst == 8
+        && usize::from(opened.burst) == MOST_DWORDS
         && has_ranges(seen, opened)
         && has_openings(seen, opened)
 }

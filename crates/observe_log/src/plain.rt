@@ -62,7 +62,7 @@ fn plain_line(bytes: &[u8], at: usize) -> Option<(&[u8], usize)>
     if *stop != b'\n' {
         return None;
     }
-    if size > 256 {
+    if size > 256 { // not a limit
         return None;
     }
     Some((line, at + size + 1))

@@ -1,7 +1,7 @@
 ghost use Rattle.std.specs.Prelude.{IsTrue};
 ghost use Rattle.board_model.specs.WellFormed.{is_well_formed};
 
-use board_model::{Board, Lane, Place, bridge_to, end_of, request_of};
+use board_model::{Board, Lane, MOST_DELAYED, Place, bridge_to, end_of, request_of};
 use history_model::{Answer, By, Carried, Cause, Event, Step, Why};
 use judge_state::Kept;
 use machine_steps::Presented;
@@ -122,8 +122,8 @@ impl<'a> Past<'a> {
         let (posted, delayed) = self.depths(bridge);
         match cause {
             Cause::Full => WhyNot::FullOfWrites { bridge, posted },
-            // Of 8, the greatest number, it may hold more: nothing is known of their completions.
-            Cause::NoSlot if step == Step::Latch || delayed == 8 => {
+            // Of the greatest number it may hold more: nothing is known of their completions.
+            Cause::NoSlot if step == Step::Latch || delayed == MOST_DELAYED => {
                 WhyNot::FullOfRequests { bridge, delayed }
             }
             Cause::NoSlot => self.no_completion(lane, presented),

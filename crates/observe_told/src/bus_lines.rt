@@ -117,7 +117,7 @@ impl BusPlaces {
 
 /// The block of lines in which the place stands.
 fn block_of(place: u32) -> usize {
-    (place / 32) as usize
+    (place / 32) as usize // not a limit
 }
 
 /// Of each bus how many lines the buses before it have.

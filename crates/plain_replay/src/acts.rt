@@ -140,7 +140,7 @@ fn act_by_lane(board: &Board, before: &[Event], bus: u8, lane: Lane, op: OpId) -
 }
 
 /// The first act of a master on the bus, in the order of the board.
-#[tactic(auto, using(law_lanes::proofs::progress::NextFirstLemmas::first_more, board_model::proofs::claims::FewLemmas::few_masters_before, board_model::proofs::claims::FewLemmas::master_more))]
+#[tactic(auto, using(law_lanes::proofs::progress::NextFirstLemmas::first_more, board_model::proofs::FewLemmas::few_masters_before, board_model::proofs::FewLemmas::master_more))]
 fn act_of_masters(board: &Board, before: &[Event], bus: u8) -> Option<Event>
     requires formed { IsTrue (is_well_formed board.now) }
     requires run { Run board.now (history_of before.now) }

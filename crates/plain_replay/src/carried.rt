@@ -6,6 +6,7 @@ ghost use Rattle.history_model.specs.Runs.{history_of};
 ghost use Rattle.history_model.specs.Left.{post_left, flying_left, standing_left, lane_left};
 ghost use Rattle.history_model.specs.Left.{bridge_left};
 ghost use Rattle.judge_lanes.specs.Running.{IsRunning};
+ghost use Rattle.board_model.specs.Limits.{most_bridges, most_in_flight, most_standing};
 
 use crate::lanes::lanes_after_events;
 use crate::words::through;
@@ -19,7 +20,7 @@ pub(crate) fn bridges_left(board: &Board, events: &[Event]) -> u64
     requires { IsRunning board.now (history_of events.now) }
     ensures value { result ≡
         total (bridge_left board.now (history_of events.now)) board.now.bridges }
-    ensures fits { result ≤ 20000000 * 31 }
+    ensures fits { result ≤ 20000000 * most_bridges }
 {
     let mut left = 0;
     for bridge in board.bridges.as_slice() {
@@ -62,9 +63,9 @@ fn tables_left(board: &Board, events: &[Event], lane: Lane, tables: &LaneTables)
 
 fn flight_left(board: &Board, events: &[Event], lane: Lane, items: &[Carried]) -> u64
     requires running { IsRunning board.now (history_of events.now) }
-    requires few { length items.now ≤ 32 }
+    requires few { length items.now ≤ most_in_flight }
     ensures value { result ≡ total (flying_left board.now (history_of events.now) lane) items.now }
-    ensures fits { result ≤ 70000 * 32 }
+    ensures fits { result ≤ 70000 * most_in_flight }
 {
     let mut left = 0;
     for item in items {
@@ -89,10 +90,10 @@ fn flying_left(board: &Board, events: &[Event], lane: Lane, item: Carried) -> u3
 
 fn stand_left(board: &Board, events: &[Event], lane: Lane, items: &[Carried]) -> u64
     requires running { IsRunning board.now (history_of events.now) }
-    requires few { length items.now ≤ 24 }
+    requires few { length items.now ≤ most_standing }
     ensures value { result ≡
         total (standing_left board.now (history_of events.now) lane) items.now }
-    ensures fits { result ≤ 70000 * 24 }
+    ensures fits { result ≤ 70000 * most_standing }
 {
     let mut left = 0;
     for item in items {

@@ -23,7 +23,7 @@ pub fn complete(board: &Board, events: &[Event]) -> bool
 }
 
 /// Whether the program of every master ended.
-#[tactic(auto, using(board_model::proofs::claims::FewLemmas::few_masters_before, board_model::proofs::claims::FewLemmas::master_more))]
+#[tactic(auto, using(board_model::proofs::FewLemmas::few_masters_before, board_model::proofs::FewLemmas::master_more))]
 fn have_ended(board: &Board, events: &[Event]) -> bool
     requires { IsTrue (is_well_formed board.now) }
     ensures { IsTrue result ↔ ((master : ℕ) → master < length board.now.masters →

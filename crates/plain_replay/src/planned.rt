@@ -6,6 +6,7 @@ ghost use Rattle.history_model.specs.Answers.{stalls_used};
 ghost use Rattle.history_model.specs.Runs.{history_of};
 ghost use Rattle.history_model.specs.Left.{stalls_left, discard_left, drop_left};
 ghost use Rattle.judge_lanes.specs.Running.{IsRunning};
+ghost use Rattle.board_model.specs.Limits.{most_plans};
 
 use crate::lanes::lanes_after_events;
 use crate::words::stalls_used;
@@ -47,7 +48,7 @@ pub(crate) fn discards_left(board: &Board, events: &[Event]) -> u64
     requires { IsRunning board.now (history_of events.now) }
     ensures value { result ≡ total (discard_left board.now
         (world_of board.now (history_of events.now))) board.now.discards }
-    ensures fits { result ≤ 1020 * 1024 }
+    ensures fits { result ≤ 1020 * most_plans }
 {
     let longest = longest_way(board, board.masters.as_slice());
     let mut left = 0;
@@ -87,7 +88,7 @@ pub(crate) fn drops_left(board: &Board, events: &[Event]) -> u64
     requires { IsRunning board.now (history_of events.now) }
     ensures value { result ≡
         total (drop_left (world_of board.now (history_of events.now))) board.now.drops }
-    ensures fits { result ≤ 3 * 1024 }
+    ensures fits { result ≤ 3 * most_plans }
 {
     let mut left = 0;
     for planned in board.drops.as_slice() {

@@ -39,7 +39,7 @@ pub fn place_of(alloc: Global, line: &[u8], spot: Spot) -> Result<usize, NoMemor
     ensures { IfOk result (λ place. place ≡ place_of line.now spot) }
 {
     match spot {
-        Spot::BehindLimit => Ok(256),
+        Spot::BehindLimit => Ok(256), // not a limit
         Spot::BadByte => Ok(first_bad_byte(line).unwrap_or(0)),
         Spot::BehindWords => {
             let words = tokens_of(alloc, line, 0)?;

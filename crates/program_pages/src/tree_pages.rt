@@ -2,7 +2,7 @@ use crate::{Fault, Page};
 use text_faults::TreeFault;
 
 /// The pages of trees of buses, by code.
-pub static TREE_PAGES: [Page; 9] = [
+pub static TREE_PAGES: [Page; 9] = [ // not a limit
     Page {
         code: "V1",
         fault: Fault::Tree(TreeFault::LacksABus),

@@ -2,7 +2,7 @@
 ghost use Rattle.judge_state.specs.Stands.{Stands};
 
 use crate::past::Past;
-use board_model::{Lane, Place};
+use board_model::{Lane, MOST_IN_FLIGHT, Place};
 use board_tree::Tree;
 use history_model::{By, Event, Rule, Why};
 use judge_state::Kept;
@@ -10,7 +10,7 @@ use machine_moves::moves_in;
 use pci_command::NoMemory;
 
 /// More than the items that are in flight on a lane at once.
-const MOST_IN_FLIGHT: u32 = 40;
+const ROUNDS: u32 = MOST_IN_FLIGHT as u32 + 1;
 
 /// The acts happen one after another to what is kept, and behind each all that it puts in flight
 /// arrives, up to the first that is not allowed: its place among the events, from 0, and why. Their
@@ -88,7 +88,7 @@ fn arrive_on(
     requires { Stands tree.now kept.old }
     ensures { Stands tree.now kept.new }
 {
-    for _ in 0..MOST_IN_FLIGHT {
+    for _ in 0..ROUNDS {
         match kept.next_mark(tree.board(), lane) {
             Some(mark) => {
                 let _ok = go_on(kept, past, tree, n, &Event::Arrive { lane, mark })?;

@@ -12,7 +12,7 @@ use pci_command::{NoMemory, OpId};
 use trace_text::LaneWord;
 
 /// How many are told of.
-const MOST: usize = 9;
+const MOST: usize = 9; // not a limit
 
 /// A sentence for each master that has not ended, and then for each item that has not left.
 pub(crate) fn all_left(scene: &Scene) -> Result<Vec<String>, NoMemory>

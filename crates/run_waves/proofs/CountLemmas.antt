@@ -1,17 +1,18 @@
 -- How many signals a board has.
-use Rattle.std.proofs.Common.{◌≡◌, ◌⊎◌, inl, inr, ℕ, zero, suc, ◌+◌, ◌*◌, ◌^◌, ◌≤◌, ◌==◌, nat_le, Bool, true, false, cond, count_by, List, [], ◌∷◌, ◌++◌, length, Option, Some, slice_get, refl, ap, subst, ◌∙◌, arith}
-use Rattle.std.specs.List.{filter, flat_map, range_with_len, list_all}
+use Rattle.std.proofs.Common.{◌≡◌, ℕ, zero, suc, ◌+◌, ◌*◌, ◌^◌, ◌≤◌, ◌==◌, Bool, true, false, cond, count_by, List, [], ◌∷◌, ◌++◌, length, Option, Some, slice_get, refl, ap, ◌∙◌, arith}
+use Rattle.std.specs.List.{filter, flat_map, range_with_len}
 use Rattle.std.proofs.Math.Nat.{suc-mul}
-use Rattle.std.proofs.lemmas.Bool.{and_parts, eqb-true, leb-true}
 use Rattle.std.proofs.lemmas.List.{length-append}
 use Rattle.std.proofs.lemmas.List.FromFn.{length-range_with_len}
 use Rattle.std.proofs.lemmas.List.Sums.{length-filter, count_by-le-length}
+use Rattle.board_model.specs.Limits.{most_agents}
 use Rattle.board_model.specs.declared.agents.Master.{Master}
 use Rattle.board_model.specs.declared.agents.Target.{Target}
 use Rattle.board_model.specs.declared.board.Board.{Board}
-use Rattle.board_model.specs.WellFormed.{agents_on, AreFew}
+use Rattle.board_model.specs.WellFormed.{AreFew}
 use Rattle.board_model.specs.Valid.{is_bus, IsValid}
 use Rattle.board_model.proofs.Laws.{WellFormed-parts}
+use Rattle.board_model.proofs.FewLemmas.{on_bus, on_bus-count, few_targets_on, few_masters_on}
 use Rattle.history_model.specs.Answers.{is_on}
 use Rattle.run_report.specs.Report.{buses_of}
 use Rattle.run_waves.specs.declared.signal.Signal.{Signal}
@@ -41,45 +42,21 @@ places_pass test (x ∷ xs) =
     let places : List ℕ = filter (λ k. test (slice_get (x ∷ xs) k)) (range_with_len (0 + 1) (length xs)) in
     longer (test (Some x)) 0 x places (filter (λ y. test (Some y)) xs) (shifted (λ k. test (slice_get (x ∷ xs) k)) 0 (length xs) ∙ places_pass test xs)
 
--- none passes, or one that all others are like
-none_or_one : {X : Type 0} (test each : X → Bool) (G : Type 0) → ((x : X) → test x ≡ true → each x ≡ true → G) → (xs : List X) → list_all each xs ≡ true → (filter test xs ≡ []) ⊎ G
-none_or_one test each G gives [] all = inl refl
-none_or_one test each G gives (x ∷ xs) all =
-    let parts = and_parts (each x) (list_all each xs) all in
-    let P : Bool → Type 0 = λ b. test x ≡ b → (cond b (x ∷ filter test xs) (filter test xs) ≡ []) ⊎ G in
-    (elim (test x) as P [ true ↦ λ passes. inr (gives x passes parts.0) | false ↦ λ _. none_or_one test each G gives xs parts.1 ]) refl
+-- The agents of a bus are few.
 
--- so few pass, where each that passes says so
-few_pass : {X : Type 0} (test each : X → Bool) (most : ℕ) (xs : List X) → ((x : X) → test x ≡ true → each x ≡ true → count_by test xs ≤ most) → list_all each xs ≡ true → length (filter test xs) ≤ most
-few_pass test each most xs gives all =
-    elim (none_or_one test each (count_by test xs ≤ most) gives xs all) as (λ _. length (filter test xs) ≤ most) [
-      | inl none ↦ let nothing : length (filter test xs) ≡ 0 = ap (λ l. length l) none in omega arith
-      | inr few ↦ omega (arith, length-filter test xs, few)
-    ]
-
--- The agents of a bus are at most eight.
-
-few_masters : (board : Board) (bus : ℕ) → AreFew board → length (masters_on board bus) ≤ 8
+few_masters : (board : Board) (bus : ℕ) → AreFew board → length (masters_on board bus) ≤ most_agents
 few_masters board bus few =
     let test : Master → Bool = λ master. master.bus == bus in
-    let each : Master → Bool = λ master. nat_le (agents_on board master.bus) 8 in
-    let Q : ℕ → Type 0 = λ n. agents_on board n ≤ 8 in
-    let all : (master : Master) → test master ≡ true → each master ≡ true → count_by test board.masters ≤ 8 = λ master here at_most.
-    let most : agents_on board bus ≤ 8 = subst Q (eqb-true master.bus bus here) (leb-true (agents_on board master.bus) 8 at_most) in
-    omega arith in
-    omega (arith, places_pass (is_on bus) board.masters, few_pass test each 8 board.masters all few.masters)
+    let counted : on_bus (λ (master : Master). master.bus) bus board.masters ≡ count_by test board.masters = on_bus-count (λ (master : Master). master.bus) bus board.masters in
+    omega (arith, places_pass (is_on bus) board.masters, length-filter test board.masters, counted, few_masters_on board bus few)
 
-few_targets : (board : Board) (bus : ℕ) → AreFew board → length (targets_on board bus) ≤ 8
+few_targets : (board : Board) (bus : ℕ) → AreFew board → length (targets_on board bus) ≤ most_agents
 few_targets board bus few =
     let test : Target → Bool = λ target. target.bus == bus in
-    let each : Target → Bool = λ target. nat_le (agents_on board target.bus) 8 in
-    let Q : ℕ → Type 0 = λ n. agents_on board n ≤ 8 in
-    let all : (target : Target) → test target ≡ true → each target ≡ true → count_by test board.targets ≤ 8 = λ target here at_most.
-    let most : agents_on board bus ≤ 8 = subst Q (eqb-true target.bus bus here) (leb-true (agents_on board target.bus) 8 at_most) in
-    omega arith in
-    omega (arith, places_pass (is_target_on bus) board.targets, few_pass test each 8 board.targets all few.targets)
+    let counted : on_bus (λ (target : Target). target.bus) bus board.targets ≡ count_by test board.targets = on_bus-count (λ (target : Target). target.bus) bus board.targets in
+    omega (arith, places_pass (is_target_on bus) board.targets, length-filter test board.targets, counted, few_targets_on board bus few)
 
--- 5 signals of what happens on a bus, 12 of its lanes, and at most 24 of its masters and 8 of its targets
+-- 5 signals of what happens on a bus, 12 of its lanes, three of each of its masters and one of each of its targets
 
 few_lanes : (bus : ℕ) → length (lanes_on bus) ≤ 12
 few_lanes bus =

@@ -8,6 +8,7 @@ use Rattle.list_facts.specs.Lists.{total}
 use Rattle.list_facts.proofs.TestLemmas.{list_all-get}
 use Rattle.list_facts.proofs.TotalLemmas.{total-alike}
 use Rattle.pci_command.specs.declared.op_id.OpId.{OpId}
+use Rattle.board_model.specs.Limits.{most_posted, most_delayed, most_ops, most_tries}
 use Rattle.board_model.specs.declared.agents.Master.{Master}
 use Rattle.board_model.specs.declared.agents.Target.{Target}
 use Rattle.board_model.specs.declared.bridge.Lane.{Lane as BridgeLane}
@@ -32,7 +33,7 @@ use Rattle.history_model.proofs.facts.TurnLemmas.{turn_is_there}
 use Rattle.law_lanes.specs.Credits.{post_count}
 use Rattle.law_lanes.specs.Depths.{Within}
 use Rattle.law_lanes.specs.Slots.{slot_weight, ask_weight, done_weight, places}
-use Rattle.law_lanes.proofs.Laws.{Within-eight, Slots-run, Credits-run, WellFormed-depths}
+use Rattle.law_lanes.proofs.Laws.{Within-limits, Slots-run, Credits-run, WellFormed-depths}
 use Rattle.law_bound.proofs.changes.Laws.{turn_master}
 use Rattle.run_waves.specs.declared.signal.LaneCount.{LaneCount}
 use Rattle.run_waves.specs.declared.signal.LaneCount.TheVariants.{Owed, Held, Flight, Posts, Requests, Completions}
@@ -69,10 +70,10 @@ completion_more Room items = omega arith
 completion_more (Gone slot) items = omega arith
 
 module _ (board : Board) (valid : IsValid board) (h : List Event) (run : Run board h) where
-  little : (lane : BridgeLane) → Within 8 8 (world_of board h lane)
-  little lane = Within-eight board h lane (WellFormed-depths board valid.well_formed) run
+  little : (lane : BridgeLane) → Within most_posted most_delayed (world_of board h lane)
+  little lane = Within-limits board h lane (WellFormed-depths board valid.well_formed) run
 
-  few_posts : (lane : BridgeLane) → count_by is_post (world_of board h lane).standing ≤ 8
+  few_posts : (lane : BridgeLane) → count_by is_post (world_of board h lane).standing ≤ most_posted
   few_posts lane =
       let standing : List Carried = (world_of board h lane).standing in
       let owed = (Credits-run board h lane run).owed in
@@ -80,23 +81,23 @@ module _ (board : Board) (valid : IsValid board) (h : List Event) (run : Run boa
       omega (arith, owed, most, is_count_by (total post_count) is_post refl post_more standing)
 
   -- each slot has one item
-  slots_held : (lane : BridgeLane) → places (λ _. 1) (both (world_of board h) lane) ≤ 8
+  slots_held : (lane : BridgeLane) → places (λ _. 1) (both (world_of board h) lane) ≤ most_delayed
   slots_held lane =
       let one_place = (Slots-run board h lane run).one_place (λ _. 1) in
       let held = (little lane).held in
       omega (arith, one_place, held, total-alike (slot_weight (λ _. 1)) 1 (λ _. refl) (world_of board h lane).held)
 
-  few_requests : (lane : BridgeLane) → count_by is_request (world_of board h lane).standing ≤ 8
+  few_requests : (lane : BridgeLane) → count_by is_request (world_of board h lane).standing ≤ most_delayed
   few_requests lane =
       let standing : List Carried = (world_of board h lane).standing in
-      let held : places (λ _. 1) (both (world_of board h) lane) ≤ 8 = slots_held lane in
+      let held : places (λ _. 1) (both (world_of board h) lane) ≤ most_delayed = slots_held lane in
       omega (arith, held, is_count_by (total (ask_weight (λ _. 1))) is_request refl request_more standing)
 
-  few_completions : (lane : BridgeLane) → count_by is_completion (world_of board h lane).standing ≤ 8
+  few_completions : (lane : BridgeLane) → count_by is_completion (world_of board h lane).standing ≤ most_delayed
   few_completions lane =
-      let P : BridgeLane → Type 0 = λ l. count_by is_completion (world_of board h l).standing ≤ 8 in
+      let P : BridgeLane → Type 0 = λ l. count_by is_completion (world_of board h l).standing ≤ most_delayed in
       let there : BridgeLane = lane_back (lane_back lane) in
-      let held : places (λ _. 1) (both (world_of board h) (lane_back lane)) ≤ 8 = slots_held (lane_back lane) in
+      let held : places (λ _. 1) (both (world_of board h) (lane_back lane)) ≤ most_delayed = slots_held (lane_back lane) in
       let few : P there = omega (arith, held, is_count_by (total (done_weight (λ _. 1))) is_completion refl completion_more (world_of board h there).standing) in
       subst P (lane_back_back lane) few
 
@@ -111,16 +112,16 @@ module _ (board : Board) (valid : IsValid board) (h : List Event) (run : Run boa
 
   -- Masters: an operation that is a turn is there.
 
-  turn_limits : (master : ℕ) (o : OpId) → turn_of board h master ≡ Some o → (o.index < 1024) × (o.attempt < 65536)
+  turn_limits : (master : ℕ) (o : OpId) → turn_of board h master ≡ Some o → (o.index < most_ops) × (o.attempt < most_tries)
   turn_limits master o turn =
       let itself : turn_of board h o.master ≡ Some o = ap (turn_of board h) (turn_master board h master o turn) ∙ turn in
       let is : is_turn o (turn_of board h o.master) ≡ true = subst (λ found. is_turn o found ≡ true) (sym itself) (same_op_self o) in
-      let P : Option Op → Type 0 = λ found. op_of board o ≡ found → is_some found ≡ true → (o.index < 1024) × (o.attempt < 65536) in
+      let P : Option Op → Type 0 = λ found. op_of board o ≡ found → is_some found ≡ true → (o.index < most_ops) × (o.attempt < most_tries) in
       (elim (op_of board o) as P [ None ↦ λ _ there. cc | Some op ↦ λ found _. op_limits board o op valid.well_formed found ]) refl (turn_is_there board h o is)
 
-  few_ops : (master : ℕ) → ops_of board master ≤ 1024
+  few_ops : (master : ℕ) → ops_of board master ≤ most_ops
   few_ops master =
-      let P : Option Master → Type 0 = λ found. slice_get board.masters master ≡ found → option_map_or (λ agent. length agent.ops) found 0 ≤ 1024 in
+      let P : Option Master → Type 0 = λ found. slice_get board.masters master ≡ found → option_map_or (λ agent. length agent.ops) found 0 ≤ most_ops in
       (elim (slice_get board.masters master) as P [
         | None ↦ λ _. omega arith
         | Some agent ↦ λ there.

@@ -79,7 +79,7 @@ fn add_masters(signals: &mut Vec<Signal>, board: &Board, bus: u8) -> Result<(), 
         ≡ signals.old.items ++ flat_map progress (masters_on board.now bus)) }
 {
     for (master, agent) in board.masters.as_slice().iter().enumerate() {
-        // It is one of 256 buses, with eight masters at most on each.
+        // It is one of 256 buses, with few masters on each.
         let on = agent.bus;
         if on == bus {
             add_progress(signals, master as u16)?;
@@ -104,7 +104,7 @@ fn add_targets(signals: &mut Vec<Signal>, board: &Board, bus: u8) -> Result<(), 
         ≡ signals.old.items ++ flat_map tokens_left (targets_on board.now bus)) }
 {
     for (target, agent) in board.targets.as_slice().iter().enumerate() {
-        // It is one of 256 buses, with eight targets at most on each.
+        // It is one of 256 buses, with few targets on each.
         let on = agent.bus;
         if on == bus {
             signals.push(Signal::Stall {

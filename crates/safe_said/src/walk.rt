@@ -6,6 +6,7 @@ ghost use Rattle.board_writes.specs.Rows.{table_of, KeepsPolls};
 ghost use Rattle.board_writes.specs.Polls.{AreKept};
 ghost use Rattle.safe_said.specs.AllSaid.{verdict, line, lines_of, all_said};
 ghost use Rattle.safe_said.specs.Members.{IsSeen, KeepsMembers, Says};
+ghost use Rattle.board_model.specs.Limits.{most_ops};
 
 use crate::looks::Looks;
 use crate::members::Members;
@@ -92,7 +93,7 @@ fn list_program(
     requires seen { IsSeen looks.now.tree.now looks.now.table.now looks.now.writers.now
         looks.now.polls.now }
     requires kept { KeepsMembers looks.now.tree.now (table_of looks.now.table.now) members.old }
-    requires few { length ops.now ≤ 1024 }
+    requires few { length ops.now ≤ most_ops }
     ensures { OnOk result (Says looks.now.tree.now (table_of looks.now.table.now) (ops_from master
         0 ops.now) members.new list.old.items list.new.items) }
 {

@@ -8,6 +8,7 @@ use Rattle.list_facts.specs.Lists.{total, greatest}
 use Rattle.list_facts.proofs.EachLemmas.{Each-weaker}
 use Rattle.list_facts.proofs.TestLemmas.{Each-list_all}
 use Rattle.list_facts.proofs.AnyLemmas.{total_same}
+use Rattle.board_model.specs.Limits.{most_agents, most_ops}
 use Rattle.board_model.specs.declared.agents.Target.{Target as TargetAgent}
 use Rattle.board_model.specs.declared.agents.Master.{Master}
 use Rattle.board_model.specs.declared.bridge.Bridge.{Bridge}
@@ -70,10 +71,10 @@ module _ (board : Board) where
       record {
         bridges = few.bridges;
         targets =
-            all_same (λ (target : TargetAgent). nat_le (agents_on (combined board) target.bus) 8) (λ (target : TargetAgent). nat_le (agents_on board target.bus) 8) (λ target. ap (λ n. nat_le n 8) (agents_same target.bus)) board.targets
+            all_same (λ (target : TargetAgent). nat_le (agents_on (combined board) target.bus) most_agents) (λ (target : TargetAgent). nat_le (agents_on board target.bus) most_agents) (λ target. ap (λ n. nat_le n 8) (agents_same target.bus)) board.targets
             ∙ few.targets;
         masters =
-            all_map (λ (master : Master). nat_le (agents_on (combined board) master.bus) 8) (λ (master : Master). nat_le (agents_on board master.bus) 8) (combined_master board) (λ master. ap (λ n. nat_le n 8) (agents_same master.bus)) board.masters
+            all_map (λ (master : Master). nat_le (agents_on (combined board) master.bus) most_agents) (λ (master : Master). nat_le (agents_on board master.bus) most_agents) (combined_master board) (λ master. ap (λ n. nat_le n 8) (agents_same master.bus)) board.masters
             ∙ few.masters;
       }
 
@@ -128,7 +129,7 @@ any_no test other h (x ∷ xs) each none =
 
 -- a joined program in its master
 pub record SmallerMaster (board : Board) (master : Master) : Type 0 where
-  pub few : length master.ops ≤ 1024
+  pub few : length master.ops ≤ most_ops
   pub smaller : Smaller board master.bus master.ops (combined_ops board master.ops)
 
 Each-smaller : (board : Board) → list_all is_well_formed_bridge board.bridges ≡ true → list_all is_well_formed_target board.targets ≡ true → list_all is_well_formed_master board.masters ≡ true

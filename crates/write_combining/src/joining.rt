@@ -11,7 +11,7 @@ ghost use Rattle.write_combining.specs.Kept.{KeepsPair};
 
 use crate::joined_brings_the_same;
 use crate::merge::{are_apart, chained, merged_phase, shared};
-use board_model::{Board, Op, window_holds};
+use board_model::{Board, MOST_DWORDS, Op, window_holds};
 use pci_command::{Command, Phase, Phases};
 
 /// A memory write of a program: the address of its first dword, and its data phases.
@@ -112,7 +112,7 @@ fn is_burst(address: u64, phases: usize) -> bool
     requires { phases ≤ 16 }
     ensures { result ≡ is_burst_in Mem address phases }
 {
-    1 <= phases && phases <= 8 && address % 64 + 4 * phases as u64 <= 64
+    1 <= phases && phases <= MOST_DWORDS && address % 64 + 4 * phases as u64 <= 64
 }
 
 /// Whether the address lies in a prefetchable window of some bridge of the board.

@@ -15,4 +15,4 @@ pub use Rattle.board_model.proofs.form_laws.StepLemmas.{steps, Up, Down}
 -- the bridge that is found by a number has it
 pub use Rattle.board_model.proofs.form_laws.WayLemmas.{number_of}
 -- a valid board has at most 256 masters
-pub use Rattle.board_model.proofs.form_laws.FewLemmas.{few_masters}
+pub use Rattle.board_model.proofs.FewLemmas.{few_masters}

@@ -3,6 +3,7 @@ use Rattle.std.proofs.Common.{subst, ◌≡◌, ℕ, Bool, false, [], ◌∷◌,
 use Rattle.std.specs.Prelude.{◌||◌, not, nat_le, nat_lt, ◌+◌, ◌==◌, ◌%◌}
 use Rattle.std.specs.List.{list_any}
 use Rattle.list_facts.specs.Lists.{total}
+use Rattle.board_model.specs.Limits.{most_bridges, most_children, most_ops, most_tries, most_openings, most_plans}
 use Rattle.board_model.specs.declared.bridge.Bridge.{Bridge}
 use Rattle.board_model.specs.declared.agents.Range.{Range}
 use Rattle.board_model.specs.declared.agents.Opening.{Opening}
@@ -29,7 +30,7 @@ use Rattle.board_parser.proofs.draft.StepLemmas.{if-ok, step-ok}
 
 pub record BridgePut (wide : Bool) (board : Board) (bridge : Bridge) (added : Draft) : Type 0 where
   pub apart : list_any (has_bus bridge.bus) board.bridges ≡ false
-  pub few : (nat_le 31 (length board.bridges) || nat_le 8 (children_on board bridge.parent)) ≡ false
+  pub few : (nat_le most_bridges (length board.bridges) || nat_le most_children (children_on board bridge.parent)) ≡ false
   pub is : added ≡ draft_of wide (record board { bridges = board.bridges ++ bridge ∷ [] })
 
 pub put_bridge-ok : (wide : Bool) (board : Board) (bridge : Bridge) (added : Draft) → put_bridge wide board bridge ≡ Ok added → BridgePut wide board bridge added
@@ -133,7 +134,7 @@ add_abort-ok wide range target changed h =
 
 pub record OpeningAdded (opening : Opening) (target changed : Target) : Type 0 where
   pub aligned : not (opening.address % 4 == 0) ≡ false
-  pub few : nat_le 256 (length target.openings) ≡ false
+  pub few : nat_le most_openings (length target.openings) ≡ false
   pub is : changed ≡ record target { openings = target.openings ++ opening ∷ [] }
 
 pub add_opening-ok : (opening : Opening) (target changed : Target) → add_opening opening target ≡ Ok changed → OpeningAdded opening target changed
@@ -145,7 +146,7 @@ add_opening-ok opening target changed h =
 pub record OpAdded (before : ℕ) (op : Op) (too_many : Bool) (master changed : Master) : Type 0 where
   pub aligned : not (is_aligned op) ≡ false
   pub within : (too_many || passes_block op) ≡ false
-  pub few : (nat_le 1024 (length master.ops) || nat_lt 65536 (before + tries_of op)) ≡ false
+  pub few : (nat_le most_ops (length master.ops) || nat_lt most_tries (before + tries_of op)) ≡ false
   pub is : changed ≡ record master { ops = master.ops ++ op ∷ [] }
 
 pub add_op-ok : (before : ℕ) (op : Op) (too_many : Bool) (master changed : Master) → add_op before op too_many master ≡ Ok changed → OpAdded before op too_many master changed
@@ -155,8 +156,10 @@ add_op-ok before op too_many master changed h =
     let third = if-ok _ _ _ _ second.1 in
     record { aligned = first.0; within = second.0; few = third.0; is = cc }
 
-pub add_discard-ok : (wide : Bool) (board : Board) (planned : Planned) (added : Draft) → add_discard wide board planned ≡ Ok added → (nat_le 1024 (length board.discards) ≡ false) × (added ≡ draft_of wide (record board { discards = board.discards ++ planned ∷ [] }))
+pub add_discard-ok : (wide : Bool) (board : Board) (planned : Planned) (added : Draft) → add_discard wide board planned ≡ Ok added
+    → (nat_le most_plans (length board.discards) ≡ false) × (added ≡ draft_of wide (record board { discards = board.discards ++ planned ∷ [] }))
 add_discard-ok wide board planned added h = let room = if-ok _ _ _ _ h in (room.0, cc)
 
-pub add_drop-ok : (wide : Bool) (board : Board) (planned : Planned) (added : Draft) → add_drop wide board planned ≡ Ok added → (nat_le 1024 (length board.drops) ≡ false) × (added ≡ draft_of wide (record board { drops = board.drops ++ planned ∷ [] }))
+pub add_drop-ok : (wide : Bool) (board : Board) (planned : Planned) (added : Draft) → add_drop wide board planned ≡ Ok added
+    → (nat_le most_plans (length board.drops) ≡ false) × (added ≡ draft_of wide (record board { drops = board.drops ++ planned ∷ [] }))
 add_drop-ok wide board planned added h = let room = if-ok _ _ _ _ h in (room.0, cc)

@@ -6,6 +6,7 @@ use Rattle.std.specs.Str.{bytes_eq}
 use Rattle.std.specs.HashSet.{contains_text}
 use Rattle.std.proofs.lemmas.List.Folds.{list_any-append}
 use Rattle.std.proofs.lemmas.Bool.{eqb-true, eqb-false}
+use Rattle.board_model.specs.Limits.{most_agents, most_tries}
 use Rattle.board_model.specs.declared.bridge.Bridge.{Bridge}
 use Rattle.board_model.specs.declared.agents.Target.{Target}
 use Rattle.board_model.specs.declared.agents.Master.{Master}
@@ -151,16 +152,18 @@ more-add draft (Drops planned) added h =
 
 -- At most eight agents on a bus.
 
-few_same : (before after : Board) → HasMore before after None → ((b : ℕ) → agents_on before b ≤ 8) → (bus : ℕ) → agents_on after bus ≤ 8
+few_same : (before after : Board) → HasMore before after None → ((b : ℕ) → agents_on before b ≤ most_agents) → (bus : ℕ) → agents_on after bus ≤ most_agents
 few_same before after more few bus = let counted = more.agents bus in let fewer = few bus in omega (arith, counted, fewer)
 
-few_more : (before after : Board) (name : List ℕ) (at : ℕ) → HasMore before after (Some (name, at)) → agents_on before at < 8 → ((b : ℕ) → agents_on before b ≤ 8) → (bus : ℕ) → agents_on after bus ≤ 8
+few_more : (before after : Board) (name : List ℕ) (at : ℕ) → HasMore before after (Some (name, at)) → agents_on before at < most_agents
+    → ((b : ℕ) → agents_on before b ≤ most_agents) → (bus : ℕ) → agents_on after bus ≤ most_agents
 few_more before after name at more room few bus =
     let counted = more.agents bus in
     let fewer = one_more (agents_on before) at bus few room in
     omega (arith, counted, fewer)
 
-few-add : (draft : Draft) (statement : Statement) (added : Draft) → add draft statement ≡ Ok added → HasMore (board_of draft) (board_of added) (agent_in statement) → ((b : ℕ) → agents_on (board_of draft) b ≤ 8) → (bus : ℕ) → agents_on (board_of added) bus ≤ 8
+few-add : (draft : Draft) (statement : Statement) (added : Draft) → add draft statement ≡ Ok added → HasMore (board_of draft) (board_of added) (agent_in statement)
+    → ((b : ℕ) → agents_on (board_of draft) b ≤ most_agents) → (bus : ℕ) → agents_on (board_of added) bus ≤ most_agents
 few-add draft (NewBridge bridge) added h more few = few_same _ _ more few
 few-add draft (NewHeader device bytes posted delayed) added h more few = few_same _ _ more few
 few-add draft (NewTarget name bus device) added h more few =
@@ -179,7 +182,8 @@ few-add draft (Drops planned) added h more few = few_same _ _ more few
 
 -- Counts.
 
-same_fault : (used other : Bool) (full more : ℕ) (first second : LineFault) → used ≡ other → full ≡ more → cond used (Some first) (cond (nat_le 8 full) (Some second) None) ≡ cond other (Some first) (cond (nat_le 8 more) (Some second) None)
+same_fault : (used other : Bool) (full more : ℕ) (first second : LineFault) → used ≡ other → full ≡ more
+    → cond used (Some first) (cond (nat_le most_agents full) (Some second) None) ≡ cond other (Some first) (cond (nat_le most_agents more) (Some second) None)
 same_fault used other full more first second a b = cc
 
 -- the counts tell the fault of one more agent
@@ -188,13 +192,14 @@ fault_is counts board name bus count below =
     same_fault (contains_text counts.names name) (is_name_used board name) (slice_index counts.agents bus) (agents_on board bus) _ _ (count.names name) (count.agents bus below)
 
 -- and there is room for what is added
-pub agents_few : (counts : Counts) (board : Board) → IsCountOf counts board → (bus : ℕ) → bus < 256 → slice_index counts.agents bus ≤ 8
+pub agents_few : (counts : Counts) (board : Board) → IsCountOf counts board → (bus : ℕ) → bus < 256 → slice_index counts.agents bus ≤ most_agents
 agents_few counts board count bus below =
     let same = count.agents bus below in
     let few = count.few_agents bus in
     omega (arith, same, few)
 
-pub operations_few : (counts : Counts) (draft : Draft) (statement : Statement) (added : Draft) → IsCountOf counts (board_of draft) → add draft statement ≡ Ok added → counts.operations + tries_in statement ≤ 65536
+pub operations_few : (counts : Counts) (draft : Draft) (statement : Statement) (added : Draft) → IsCountOf counts (board_of draft)
+    → add draft statement ≡ Ok added → counts.operations + tries_in statement ≤ most_tries
 operations_few counts draft statement added count h =
     let counted = operations-add draft statement added h in
     let same = count.operations in

@@ -4,6 +4,7 @@ use Rattle.std.specs.Prelude.{◌||◌, nat_le, nat_lt}
 use Rattle.std.proofs.lemmas.Bool.Decides.{nat_tests}
 use Rattle.list_facts.specs.Lists.{total}
 use Rattle.list_facts.proofs.TotalLemmas.{total-push}
+use Rattle.board_model.specs.Limits.{most_ops, most_tries}
 use Rattle.board_model.specs.declared.agents.Target.{Target}
 use Rattle.board_model.specs.declared.agents.Master.{Master}
 use Rattle.board_model.specs.declared.bridge.Bridge.{Bridge}
@@ -31,10 +32,10 @@ operations_of draft = operations_in (board_of draft).masters
 -- a draft after a statement: what it counts, and that this is no more than a board may have
 pub record Counted (before after more : ℕ) : Type 0 where
   pub is : after ≡ before + more
-  pub few : before ≤ 65536 → after ≤ 65536
+  pub few : before ≤ most_tries → after ≤ most_tries
 
 same_count : (before after : ℕ) → after ≡ before → Counted before after 0
-same_count before after h = record { is = omega arith; few = λ (limit : before ≤ 65536). omega arith }
+same_count before after h = record { is = omega arith; few = λ (limit : before ≤ most_tries). omega arith }
 
 bridge_count : (wide : Bool) (board : Board) (bridge : Bridge) (added : Draft) → BridgePut wide board bridge added → operations_of added ≡ operations_in board.masters
 bridge_count wide board bridge added put = ap operations_of put.is
@@ -57,7 +58,7 @@ owner_count board owner master was =
     let P : AgentPlace → Type 0 = λ o. operations_in (with_owner board o).masters ≡ operations_in board.masters + total tries_of master.ops in
     subst P (sym was) (operations-push board.masters master)
 
-few_enough : (a n : ℕ) → (nat_le 1024 a || nat_lt 65536 n) ≡ false → n ≤ 65536
+few_enough : (a n : ℕ) → (nat_le most_ops a || nat_lt most_tries n) ≡ false → n ≤ most_tries
 few_enough a n h = grind (arith, nat_tests)
 
 does_count : (draft : Draft) (op : Op) (too_many : Bool) (added : Draft) → does draft op too_many ≡ Ok added → Counted (operations_of draft) (operations_of added) (tries_of op)
@@ -70,8 +71,8 @@ does_count draft op too_many added h =
     ap operations_of done.is ∙ operations-push draft.board.masters done.changed in
     let more : total tries_of done.changed.ops ≡ total tries_of done.master.ops + tries_of op =
     ap (λ (m : Master). total tries_of m.ops) put.is ∙ total-op done.master.ops op in
-    let few : operations_of draft + tries_of op ≤ 65536 = few_enough _ _ put.few in
-    record { is = omega arith; few = λ (limit : operations_of draft ≤ 65536). omega arith }
+    let few : operations_of draft + tries_of op ≤ most_tries = few_enough _ _ put.few in
+    record { is = omega arith; few = λ (limit : operations_of draft ≤ most_tries). omega arith }
 
 pub operations-add : (draft : Draft) (statement : Statement) (added : Draft) → add draft statement ≡ Ok added → Counted (operations_of draft) (operations_of added) (tries_in statement)
 operations-add draft (NewBridge bridge) added h =

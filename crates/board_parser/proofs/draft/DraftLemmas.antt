@@ -4,6 +4,7 @@ use Rattle.std.specs.Prelude.{Result, Ok, nat_le, nat_lt}
 use Rattle.std.proofs.lemmas.Bool.{and_from, and_parts, or_parts, not-false, leb-false, leb-true, ltb-false, le-leb}
 use Rattle.list_facts.specs.Lists.{total}
 use Rattle.list_facts.proofs.TotalLemmas.{total-push}
+use Rattle.board_model.specs.Limits.{most_ops, most_tries}
 use Rattle.board_model.specs.declared.bridge.Bridge.{Bridge}
 use Rattle.board_model.specs.declared.agents.Target.{Target}
 use Rattle.board_model.specs.declared.agents.Master.{Master}
@@ -100,11 +101,11 @@ does_sound draft op too_many added formed sound h =
     let before : MasterSound draft.board done.master = subst Q done.was sound.owner in
     let counted : operations_in (board_of draft).masters ≡ operations_in draft.board.masters + total tries_of done.master.ops =
     owner_count draft.board draft.owner done.master done.was in
-    let limits = or_parts (nat_le 1024 (length done.master.ops)) (nat_lt 65536 (operations_in (board_of draft).masters + tries_of op)) put.few in
-    let in_all = ltb-false 65536 (operations_in (board_of draft).masters + tries_of op) limits.1 in
+    let limits = or_parts (nat_le most_ops (length done.master.ops)) (nat_lt most_tries (operations_in (board_of draft).masters + tries_of op)) put.few in
+    let in_all = ltb-false most_tries (operations_in (board_of draft).masters + tries_of op) limits.1 in
     let parts = Master-parts done.master before.formed in
     let one = op_formed op formed (not-false _ put.aligned) (or_parts _ _ put.within).1 in
-    let own = leb-false 1024 (length done.master.ops) limits.0 in
+    let own = leb-false most_ops (length done.master.ops) limits.0 in
     let longer = length-push done.master.ops op in
     let tries = total-push tries_of done.master.ops op in
     let M : Master → Type 0 = λ m. MasterSound draft.board m in

@@ -3,6 +3,7 @@ use Rattle.std.proofs.Common.{subst, zero, suc, ◌≡◌, ℕ, ◌+◌, ◌*◌
 use Rattle.std.specs.Prelude.{Some, None, Ok, ◌==◌, nat_le, nat_lt, slice_index}
 use Rattle.std.specs.List.{list_all}
 use Rattle.std.proofs.lemmas.Bool.{and_parts, and_from, not-false, ltb-true, lt-ltb, le-leb, eq-eqb}
+use Rattle.board_model.specs.Limits.{most_posted, most_delayed}
 use Rattle.board_model.specs.WellFormed.{is_within, is_window, is_well_formed_bridge}
 use Rattle.board_headers.specs.declared.windows.Windows.{Windows}
 use Rattle.board_model.specs.HeaderBytes.{bits, register_2, register_4}
@@ -80,7 +81,8 @@ reading_whole bytes windows all h =
 some_bus : (primary secondary : ℕ) → nat_lt primary secondary ≡ true → nat_le 1 secondary ≡ true
 some_bus primary secondary below = let more = ltb-true primary secondary below in le-leb _ _ (omega arith)
 
-pub header_formed : (bytes : List ℕ) (windows : Windows) (device posted delayed : ℕ) → nat_le device 31 ≡ true → is_within 1 8 posted ≡ true → is_within 1 8 delayed ≡ true → list_all is_byte bytes ≡ true → reading_of bytes ≡ Ok windows → is_well_formed_bridge (bridge_of windows device posted delayed) ≡ true
+pub header_formed : (bytes : List ℕ) (windows : Windows) (device posted delayed : ℕ) → nat_le device 31 ≡ true → is_within 1 most_posted posted ≡ true
+    → is_within 1 most_delayed delayed ≡ true → list_all is_byte bytes ≡ true → reading_of bytes ≡ Ok windows → is_well_formed_bridge (bridge_of windows device posted delayed) ≡ true
 header_formed bytes windows device posted delayed in_range deep wide all h =
     let read = reading_whole bytes windows all h in
     let w2 = and_parts _ _ read.0 in

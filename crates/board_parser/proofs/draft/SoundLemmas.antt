@@ -5,6 +5,7 @@ use Rattle.std.specs.List.{list_all, list_any}
 use Rattle.std.proofs.lemmas.Bool.{and_from, or_parts, leb-false, le-leb, eqb-true}
 use Rattle.list_facts.specs.Lists.{total}
 use Rattle.list_facts.proofs.TotalLemmas.{total-push}
+use Rattle.board_model.specs.Limits.{most_bridges, most_children, most_agents, most_tries, most_plans}
 use Rattle.board_model.specs.declared.bridge.Bridge.{Bridge}
 use Rattle.board_model.specs.declared.agents.Target.{Target}
 use Rattle.board_model.specs.declared.agents.Master.{Master}
@@ -21,19 +22,19 @@ use Rattle.board_parser.proofs.draft.PushLemmas.{all-push, length-push, count-pu
 use Rattle.board_model.proofs.Laws.{WellFormed-from}
 
 pub record IsSound (board : Board) : Type 0 where
-  pub few_bridges : length board.bridges ≤ 31
+  pub few_bridges : length board.bridges ≤ most_bridges
   pub bridges : list_all is_well_formed_bridge board.bridges ≡ true
   pub numbered : are_numbered_apart board.bridges ≡ true
   pub targets : list_all is_well_formed_target board.targets ≡ true
   pub masters : list_all is_well_formed_master board.masters ≡ true
-  pub children : (bus : ℕ) → children_on board bus ≤ 8
-  pub agents : (bus : ℕ) → agents_on board bus ≤ 8
+  pub children : (bus : ℕ) → children_on board bus ≤ most_children
+  pub agents : (bus : ℕ) → agents_on board bus ≤ most_agents
   pub targets_named : are_targets_named_apart board.masters board.targets ≡ true
   pub masters_named : are_masters_named_apart board.masters ≡ true
-  pub operations : operations_in board.masters ≤ 65536
-  pub few_discards : length board.discards ≤ 1024
+  pub operations : operations_in board.masters ≤ most_tries
+  pub few_discards : length board.discards ≤ most_plans
   pub discards : list_all is_well_formed_plan board.discards ≡ true
-  pub few_drops : length board.drops ≤ 1024
+  pub few_drops : length board.drops ≤ most_plans
   pub drops : list_all is_well_formed_plan board.drops ≡ true
 
 all_pass : {X : Type 0} (test : X → Bool) → ((x : X) → test x ≡ true) → (xs : List X) → list_all test xs ≡ true
@@ -49,9 +50,9 @@ well_formed_by board sound =
       targets = sound.targets;
       masters = sound.masters;
       few = record {
-        bridges = all_pass (λ (bridge : Bridge). nat_le (children_on board bridge.parent) 8) (λ bridge. le-leb _ _ (sound.children bridge.parent)) board.bridges;
-        targets = all_pass (λ (target : Target). nat_le (agents_on board target.bus) 8) (λ target. le-leb _ _ (sound.agents target.bus)) board.targets;
-        masters = all_pass (λ (master : Master). nat_le (agents_on board master.bus) 8) (λ master. le-leb _ _ (sound.agents master.bus)) board.masters;
+        bridges = all_pass (λ (bridge : Bridge). nat_le (children_on board bridge.parent) most_children) (λ bridge. le-leb _ _ (sound.children bridge.parent)) board.bridges;
+        targets = all_pass (λ (target : Target). nat_le (agents_on board target.bus) most_agents) (λ target. le-leb _ _ (sound.agents target.bus)) board.targets;
+        masters = all_pass (λ (master : Master). nat_le (agents_on board master.bus) most_agents) (λ master. le-leb _ _ (sound.agents master.bus)) board.masters;
       };
       targets_named_apart = sound.targets_named;
       masters_named_apart = sound.masters_named;
@@ -71,12 +72,12 @@ none-ok false fault step h = (refl, h)
 pub record HasPlace (board : Board) (name : List ℕ) (bus : ℕ) : Type 0 where
   pub targets : list_any (is_target_named name) board.targets ≡ false
   pub masters : list_any (is_master_named name) board.masters ≡ false
-  pub room : agents_on board bus < 8
+  pub room : agents_on board bus < most_agents
 
 pub place_by : (board : Board) (name : List ℕ) (bus : ℕ) → agent_fault board name bus ≡ None → HasPlace board name bus
 place_by board name bus h =
     let first = none-ok (is_name_used board name) _ _ h in
-    let second = none-ok (nat_le 8 (agents_on board bus)) _ _ first.1 in
+    let second = none-ok (nat_le most_agents (agents_on board bus)) _ _ first.1 in
     let named = or_parts (list_any (is_target_named name) board.targets) (list_any (is_master_named name) board.masters) first.0 in
     record { targets = named.0; masters = named.1; room = leb-false _ _ second.0 }
 
@@ -87,16 +88,16 @@ pub record TargetSound (board : Board) (target : Target) : Type 0 where
 pub record MasterSound (board : Board) (master : Master) : Type 0 where
   pub formed : is_well_formed_master master ≡ true
   pub place : HasPlace board master.name master.bus
-  pub operations : operations_in board.masters + total tries_of master.ops ≤ 65536
+  pub operations : operations_in board.masters + total tries_of master.ops ≤ most_tries
 
 abbrev pub OwnerSound : Board → AgentPlace → Type 0
 OwnerSound board Nobody = Unit {0}
 OwnerSound board (OfTarget target) = TargetSound board target
 OwnerSound board (OfMaster master) = MasterSound board master
 
-pub one_more : (on : ℕ → ℕ) (at bus : ℕ) → ((b : ℕ) → on b ≤ 8) → on at < 8 → on bus + cond (at == bus) 1 0 ≤ 8
+pub one_more : (on : ℕ → ℕ) (at bus : ℕ) → ((b : ℕ) → on b ≤ most_agents) → on at < most_agents → on bus + cond (at == bus) 1 0 ≤ most_agents
 one_more on at bus all room =
-    let P : Bool → Type 0 = λ b. (at == bus) ≡ b → on bus + cond b 1 0 ≤ 8 in
+    let P : Bool → Type 0 = λ b. (at == bus) ≡ b → on bus + cond b 1 0 ≤ most_agents in
     (elim (at == bus) as P [
       | true ↦ λ same. let there : on at ≡ on bus = ap on (eqb-true at bus same) in omega (arith, there, room)
       | false ↦ λ _. let few = all bus in omega (arith, few)
@@ -152,7 +153,8 @@ owner_closed board Nobody sound more = sound
 owner_closed board (OfTarget target) sound more = with_target board target sound more
 owner_closed board (OfMaster master) sound more = with_master board master sound more
 
-pub with_bridge : (board : Board) (bridge : Bridge) → IsSound board → is_well_formed_bridge bridge ≡ true → list_any (has_bus bridge.bus) board.bridges ≡ false → (nat_le 31 (length board.bridges) || nat_le 8 (children_on board bridge.parent)) ≡ false → IsSound (record board { bridges = board.bridges ++ bridge ∷ [] })
+pub with_bridge : (board : Board) (bridge : Bridge) → IsSound board → is_well_formed_bridge bridge ≡ true → list_any (has_bus bridge.bus) board.bridges ≡ false
+    → (nat_le most_bridges (length board.bridges) || nat_le most_children (children_on board bridge.parent)) ≡ false → IsSound (record board { bridges = board.bridges ++ bridge ∷ [] })
 with_bridge board bridge sound formed apart few = record {
   numbered = numbered-push board.bridges bridge sound.numbered apart;
   targets = sound.targets;
@@ -166,7 +168,7 @@ with_bridge board bridge sound formed apart few = record {
   few_drops = sound.few_drops;
   drops = sound.drops;
   few_bridges =
-      let fewer = leb-false 31 (length board.bridges) (or_parts _ _ few).0 in
+      let fewer = leb-false most_bridges (length board.bridges) (or_parts _ _ few).0 in
       let counted = length-push board.bridges bridge in
       omega (arith, fewer, counted);
   bridges = all-push is_well_formed_bridge board.bridges bridge sound.bridges formed;
@@ -176,7 +178,8 @@ with_bridge board bridge sound formed apart few = record {
       omega (arith, counted, fewer);
 }
 
-pub with_discard : (board : Board) (planned : Planned) → IsSound board → is_well_formed_plan planned ≡ true → nat_le 1024 (length board.discards) ≡ false → IsSound (record board { discards = board.discards ++ planned ∷ [] })
+pub with_discard : (board : Board) (planned : Planned) → IsSound board → is_well_formed_plan planned ≡ true → nat_le most_plans (length board.discards) ≡ false
+    → IsSound (record board { discards = board.discards ++ planned ∷ [] })
 with_discard board planned sound formed few = record {
   few_bridges = sound.few_bridges;
   bridges = sound.bridges;
@@ -191,13 +194,14 @@ with_discard board planned sound formed few = record {
   few_drops = sound.few_drops;
   drops = sound.drops;
   few_discards =
-      let fewer = leb-false 1024 (length board.discards) few in
+      let fewer = leb-false most_plans (length board.discards) few in
       let counted = length-push board.discards planned in
       omega (arith, fewer, counted);
   discards = all-push is_well_formed_plan board.discards planned sound.discards formed;
 }
 
-pub with_drop : (board : Board) (planned : Planned) → IsSound board → is_well_formed_plan planned ≡ true → nat_le 1024 (length board.drops) ≡ false → IsSound (record board { drops = board.drops ++ planned ∷ [] })
+pub with_drop : (board : Board) (planned : Planned) → IsSound board → is_well_formed_plan planned ≡ true → nat_le most_plans (length board.drops) ≡ false
+    → IsSound (record board { drops = board.drops ++ planned ∷ [] })
 with_drop board planned sound formed few = record {
   few_bridges = sound.few_bridges;
   bridges = sound.bridges;
@@ -212,7 +216,7 @@ with_drop board planned sound formed few = record {
   few_discards = sound.few_discards;
   discards = sound.discards;
   few_drops =
-      let fewer = leb-false 1024 (length board.drops) few in
+      let fewer = leb-false most_plans (length board.drops) few in
       let counted = length-push board.drops planned in
       omega (arith, fewer, counted);
   drops = all-push is_well_formed_plan board.drops planned sound.drops formed;

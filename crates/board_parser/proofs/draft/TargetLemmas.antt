@@ -7,6 +7,7 @@ use Rattle.list_facts.specs.Lists.{total}
 use Rattle.list_facts.proofs.TotalLemmas.{total-push}
 use Rattle.pci_command.specs.declared.command.Space.{Space}
 use Rattle.pci_command.specs.declared.command.Space.TheVariants.{Mem, Io, Cfg}
+use Rattle.board_model.specs.Limits.{most_dwords, most_openings}
 use Rattle.board_model.specs.declared.agents.Range.{Range}
 use Rattle.board_model.specs.declared.agents.Opening.{Opening}
 use Rattle.board_model.specs.declared.agents.Target.{Target}
@@ -96,7 +97,7 @@ opening_detail opening target changed named formed h =
     let P : Target → Type 0 = λ t. IsDetailed target t in
     let long = length-push target.openings opening in
     let few = leb-false _ _ added.few in
-    let fewer : length (target.openings ++ opening ∷ []) ≤ 256 = omega (arith, long, few) in
+    let fewer : length (target.openings ++ opening ∷ []) ≤ most_openings = omega (arith, long, few) in
     subst P (sym added.is) (record {
       name = refl;
       bus = refl;
@@ -140,7 +141,8 @@ stalls_detail tokens target changed few formed h =
       });
     })
 
-pub burst_detail : (phases : ℕ) (target changed : Target) → is_within 1 8 phases ≡ true → is_well_formed_target target ≡ true → set_burst phases target ≡ Ok changed → IsDetailed target changed
+pub burst_detail : (phases : ℕ) (target changed : Target) → is_within 1 most_dwords phases ≡ true → is_well_formed_target target ≡ true
+    → set_burst phases target ≡ Ok changed → IsDetailed target changed
 burst_detail phases target changed few formed h =
     let is : changed ≡ record target { burst = phases } = cc in
     let parts = Target-parts target formed in
@@ -151,7 +153,7 @@ burst_detail phases target changed few formed h =
       formed = Target-from (record target { burst = phases }) (record {
         device = parts.device;
         stalls = parts.stalls;
-        burst = Within-parts 1 8 phases few;
+        burst = Within-parts 1 most_dwords phases few;
         ranges = parts.ranges;
         registers = parts.registers;
         aborts = parts.aborts;

@@ -1,6 +1,7 @@
 -- When a bridge is added to a board: by its `bridge` line, or by the header that a `header` line gives.
 use Rattle.std.specs.Prelude.{ℕ, Bool, true, false, ◌+◌, ◌%◌, ◌^◌, List, [], ◌∷◌, ◌++◌, length, Option, Some, None, Result, Ok, Err, not, ◌&&◌, ◌||◌, ◌==◌, nat_le, if◌then◌else◌}
 use Rattle.std.specs.List.{list_any}
+use Rattle.board_model.specs.Limits.{most_bridges, most_children}
 use Rattle.board_model.specs.declared.bridge.Window.{Window}
 use Rattle.board_model.specs.declared.bridge.Bridge.{Bridge}
 use Rattle.board_model.specs.declared.board.Board.{Board}
@@ -32,11 +33,11 @@ is_ordered (Some window) = nat_le window.base window.limit
 abbrev pub are_windows_ordered : Bridge → Bool
 are_windows_ordered bridge = is_ordered bridge.mem && is_ordered bridge.pref && is_ordered bridge.io
 
--- a bridge to a bus that no other has; at most 31 bridges, and 8 below one bus
+-- a bridge to a bus that no other has; few bridges, and few below one bus
 abbrev pub put_bridge : Bool → Board → Bridge → Result Draft LineFault
 put_bridge wide board bridge =
     if list_any (has_bus bridge.bus) board.bridges then Err BusUsed
-    else if nat_le 31 (length board.bridges) || nat_le 8 (children_on board bridge.parent) then Err OverLimit
+    else if nat_le most_bridges (length board.bridges) || nat_le most_children (children_on board bridge.parent) then Err OverLimit
     else Ok (draft_of wide (record board { bridges = board.bridges ++ bridge ∷ [] }))
 
 -- a `bridge` line: the units of all windows before the order of any

@@ -3,6 +3,7 @@
 use Rattle.std.specs.Prelude.{◌≡◌, ℕ, Bool, true, ◌+◌, ◌<◌, ◌≤◌, List, Option, Some, None, ◌==◌, nat_le, if◌then◌else◌, slice_index, string_bytes}
 use Rattle.std.specs.Str.{bytes_eq}
 use Rattle.std.specs.HashSet.{contains_text}
+use Rattle.board_model.specs.Limits.{most_agents, most_tries}
 use Rattle.board_model.specs.declared.board.Board.{Board}
 use Rattle.board_model.specs.WellFormed.{agents_on, operations_in}
 use Rattle.text_faults.specs.declared.board_line.LineFault.{LineFault}
@@ -17,15 +18,15 @@ use Rattle.board_parser.specs.draft.Targets.{is_name_used}
 pub record IsCountOf (counts : Counts) (board : Board) : Type 0 where
   pub names : (name : List ℕ) → contains_text counts.names name ≡ is_name_used board name
   pub agents : (bus : ℕ) → bus < 256 → slice_index counts.agents bus ≡ agents_on board bus
-  pub few_agents : (bus : ℕ) → agents_on board bus ≤ 8
+  pub few_agents : (bus : ℕ) → agents_on board bus ≤ most_agents
   pub operations : counts.operations ≡ operations_in board.masters
-  pub few_operations : counts.operations ≤ 65536
+  pub few_operations : counts.operations ≤ most_tries
 
 -- the fault of one more target or master, by the counts
 abbrev pub fault_in : Counts → List ℕ → ℕ → Option LineFault
 fault_in counts name bus =
     if contains_text counts.names name then Some NameUsed
-    else if nat_le 8 (slice_index counts.agents bus) then Some OverLimit
+    else if nat_le most_agents (slice_index counts.agents bus) then Some OverLimit
     else None
 
 -- the name and the bus of the target or master that a statement adds

@@ -4,6 +4,7 @@ use Rattle.std.specs.List.{list_all}
 use Rattle.pci_command.specs.declared.command.Space.{Space}
 use Rattle.pci_command.specs.declared.command.Space.TheVariants.{Mem, Io, Cfg}
 use Rattle.pci_command.specs.declared.phases.Phase.{Phase}
+use Rattle.board_model.specs.Limits.{most_posted, most_delayed, most_dwords, most_tries}
 use Rattle.board_model.specs.declared.bridge.Window.{Window}
 use Rattle.board_model.specs.declared.bridge.Bridge.{Bridge}
 use Rattle.board_model.specs.declared.op.Op.{Op}
@@ -20,7 +21,7 @@ ends_within end (Some window) = nat_lt window.limit end
 -- a bridge as its words give it: its bus, device number, depths and windows
 abbrev pub is_formed_bridge : Bridge → Bool
 is_formed_bridge bridge =
-    nat_le 1 bridge.bus && nat_le bridge.device 31 && is_within 1 8 bridge.posted && is_within 1 8 bridge.delayed
+    nat_le 1 bridge.bus && nat_le bridge.device 31 && is_within 1 most_posted bridge.posted && is_within 1 most_delayed bridge.delayed
     && ends_within (2 ^ 32) bridge.mem && ends_within (2 ^ 64) bridge.pref && ends_within (2 ^ 32) bridge.io
 
 -- a number below 256
@@ -50,9 +51,9 @@ abbrev pub is_formed_read : ℕ → Option Space → Bool
 is_formed_read address None = false
 is_formed_read address (Some space) = is_address space address
 
--- one to eight dwords of memory, or one of I/O
+-- the dwords of a burst in memory, or one of I/O
 abbrev pub is_phase_count : Space → ℕ → Bool
-is_phase_count Mem phases = is_within 1 8 phases
+is_phase_count Mem phases = is_within 1 most_dwords phases
 is_phase_count Io phases = phases == 1
 is_phase_count Cfg phases = false
 
@@ -68,17 +69,17 @@ is_formed_op (Read command address) = is_formed_read address (read_space command
 is_formed_op (Write command address phases) = is_formed_write address phases (write_space command)
 is_formed_op (CfgRead bus device register) = nat_le device 31 && nat_le register 63
 is_formed_op (CfgWrite bus device register phase) = nat_le device 31 && nat_le register 63 && is_well_formed_phase phase
-is_formed_op (Poll space address mask value tries) = is_address space address && is_within 1 65536 tries
+is_formed_op (Poll space address mask value tries) = is_address space address && is_within 1 most_tries tries
 
 -- a statement as its words give it
 abbrev pub is_formed : Statement → Bool
 is_formed (NewBridge bridge) = is_formed_bridge bridge
 is_formed (NewHeader device bytes posted delayed) =
-    nat_le device 31 && is_within 1 8 posted && is_within 1 8 delayed && list_all is_byte bytes
+    nat_le device 31 && is_within 1 most_posted posted && is_within 1 most_delayed delayed && list_all is_byte bytes
 is_formed (NewTarget name bus device) = nat_le device 31
 is_formed (Identifies vendor model) = true
 is_formed (Stalls tokens) = nat_le tokens 1000000
-is_formed (Bursts phases) = is_within 1 8 phases
+is_formed (Bursts phases) = is_within 1 most_dwords phases
 is_formed (Claims range) = is_size range.space range.size
 is_formed (Aborts range) = is_size range.space range.size
 is_formed (Opens opening) = is_address opening.space opening.address

@@ -1,5 +1,6 @@
 -- When a master is added to a board, and an operation to the master that began last.
 use Rattle.std.specs.Prelude.{ℕ, Bool, true, false, ◌+◌, ◌*◌, ◌%◌, List, [], ◌∷◌, ◌++◌, length, Result, Ok, Err, not, ◌||◌, ◌==◌, nat_lt, nat_le, if◌then◌else◌}
+use Rattle.board_model.specs.Limits.{most_ops, most_tries}
 use Rattle.board_model.specs.declared.op.Op.{Op}
 use Rattle.board_model.specs.declared.op.Op.TheVariants.{Read, Write, CfgRead, CfgWrite, Poll}
 use Rattle.board_model.specs.declared.agents.Master.{Master}
@@ -54,7 +55,7 @@ abbrev pub add_op : ℕ → Op → Bool → Master → Result Master LineFault
 add_op before op too_many master =
     if not (is_aligned op) then Err Unaligned
     else if too_many || passes_block op then Err PastItsBlock
-    else if nat_le 1024 (length master.ops) || nat_lt 65536 (before + tries_of op) then Err OverLimit
+    else if nat_le most_ops (length master.ops) || nat_lt most_tries (before + tries_of op) then Err OverLimit
     else Ok (record master { ops = master.ops ++ op ∷ [] })
 
 -- a line with an operation

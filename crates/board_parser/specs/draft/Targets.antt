@@ -4,6 +4,7 @@ use Rattle.std.specs.List.{find, list_any}
 use Rattle.list_facts.specs.Lists.{total}
 use Rattle.pci_command.specs.declared.command.Space.{Space}
 use Rattle.pci_command.specs.declared.command.Space.TheVariants.{Mem, Io, Cfg}
+use Rattle.board_model.specs.Limits.{most_agents, most_dwords, most_openings}
 use Rattle.board_model.specs.declared.agents.Range.{Range}
 use Rattle.board_model.specs.declared.agents.Opening.{Opening}
 use Rattle.board_model.specs.declared.agents.Target.{Target}
@@ -35,11 +36,11 @@ owned Nobody = []
 owned (OfTarget target) = target ∷ []
 owned (OfMaster master) = []
 
--- a new name; at most 8 targets and masters on one bus
+-- a new name; few targets and masters on one bus
 abbrev pub agent_fault : Board → List ℕ → ℕ → Option LineFault
 agent_fault board name bus =
     if is_name_used board name then Some NameUsed
-    else if nat_le 8 (agents_on board bus) then Some OverLimit
+    else if nat_le most_agents (agents_on board bus) then Some OverLimit
     else None
 
 -- the draft, where there is no such fault
@@ -56,7 +57,7 @@ new_target name bus device = record {
   vendor = 0x1234;
   model = 0x0001;
   stalls = 0;
-  burst = 8;
+  burst = most_dwords;
   ranges = [];
   aborts = [];
   openings = [];
@@ -136,9 +137,9 @@ add_range wide range target = fits wide range >>= put_range target
 abbrev pub add_abort : Bool → Range → Target → Result Target LineFault
 add_abort wide range target = fits wide range >>= put_abort target
 
--- a `word` line: at most 256, each at a multiple of 4
+-- a `word` line: few of them, each at a multiple of 4
 abbrev pub add_opening : Opening → Target → Result Target LineFault
 add_opening opening target =
     if not (opening.address % 4 == 0) then Err Unaligned
-    else if nat_le 256 (length target.openings) then Err OverLimit
+    else if nat_le most_openings (length target.openings) then Err OverLimit
     else Ok (record target { openings = target.openings ++ opening ∷ [] })

@@ -3,7 +3,7 @@ ghost use Rattle.std.specs.Prelude.{◌-◌, ◌<◌, ◌≤◌, length};
 ghost use Rattle.board_text.specs.Tokens.{words_of};
 
 use crate::draft::bridges::{is_ordered, is_whole};
-use board_model::{Bridge, Op, Window};
+use board_model::{Bridge, MOST_DWORDS, Op, Window};
 use board_statements::{Statement, Words, take_statement};
 use text_faults::LineFault;
 
@@ -91,7 +91,7 @@ fn words_of_op(op: &Op, fault: LineFault) -> usize {
 fn words_of_write(address: u64, fault: LineFault) -> usize {
     if fault == LineFault::PastItsBlock {
         let in_block = (64 - address % 64) / 4;
-        SHORTEST_WRITE + in_block.min(8) as usize
+        SHORTEST_WRITE + in_block.min(MOST_DWORDS as u64) as usize
     } else {
         SHORTEST_WRITE
     }

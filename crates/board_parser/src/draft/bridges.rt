@@ -8,12 +8,13 @@ ghost use Rattle.board_parser.specs.draft.Bridges.{is_whole, are_windows_whole, 
 ghost use Rattle.board_parser.specs.draft.Bridges.{are_windows_ordered, put_bridge, add_bridge};
 ghost use Rattle.board_parser.specs.draft.Bridges.{fault_of, is_too_wide, bridge_of, put_header};
 ghost use Rattle.board_parser.specs.draft.Bridges.{add_header};
+ghost use Rattle.board_model.specs.Limits.{most_children};
 
 use crate::draft::add::close;
 use crate::draft::lists::push;
 use crate::draft::{AddFault, Draft};
 use board_headers::{HeaderFault, Windows, decode};
-use board_model::{Board, Bridge, Window};
+use board_model::{Board, Bridge, MOST_BRIDGES, MOST_CHILDREN, Window};
 use std::alloc::Global;
 use text_faults::LineFault;
 
@@ -38,7 +39,7 @@ fn put_bridge(alloc: Global, draft: &mut Draft, bridge: Bridge) -> Result<(), Ad
     if some_has_bus(bridges, bridge.bus) {
         return Err(AddFault::Fault(LineFault::BusUsed));
     }
-    if bridges.len() >= 31 || has_eight_children(&draft.board, bridge.parent) {
+    if bridges.len() >= MOST_BRIDGES || has_most_children(&draft.board, bridge.parent) {
         return Err(AddFault::Fault(LineFault::OverLimit));
     }
     push(alloc, &mut draft.board.bridges, bridge)?;
@@ -51,8 +52,8 @@ fn some_has_bus(bridges: &[Bridge], bus: u8) -> bool
     bridges.iter().any(|bridge| bridge.bus == bus)
 }
 
-fn has_eight_children(board: &Board, bus: u8) -> bool
-    ensures { result ≡ nat_le 8 (children_on board.now bus) }
+fn has_most_children(board: &Board, bus: u8) -> bool
+    ensures { result ≡ nat_le most_children (children_on board.now bus) }
 {
     let children = board
         .bridges
@@ -60,7 +61,7 @@ fn has_eight_children(board: &Board, bus: u8) -> bool
         .iter()
         .filter(|bridge| bridge.parent == bus)
         .count();
-    children >= 8
+    children >= MOST_CHILDREN
 }
 
 fn are_windows_whole(bridge: &Bridge) -> bool

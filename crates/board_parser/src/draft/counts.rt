@@ -1,4 +1,6 @@
-use board_model::Name;
+ghost use Rattle.board_model.specs.Limits.{most_agents, most_tries};
+
+use board_model::{MOST_AGENTS, Name};
 use board_statements::Statement;
 use indexmap::IndexSet;
 use pci_command::NoMemory;
@@ -79,7 +81,7 @@ impl Counts {
         if self.names.contains(name.as_str()) {
             return Some(LineFault::NameUsed);
         }
-        if self.agents[usize::from(bus)] >= 8 {
+        if usize::from(self.agents[usize::from(bus)]) >= MOST_AGENTS {
             return Some(LineFault::OverLimit);
         }
         None
@@ -87,8 +89,8 @@ impl Counts {
 
     /// Adds that target or master, and so many operations.
     pub(crate) fn grow(&mut self, agent: Option<Agent>, tries: u32) -> Result<(), NoMemory>
-        requires agents { (bus : ℕ) → bus < 256 → slice_index self.old.agents bus ≤ 8 }
-        requires operations { self.old.operations + tries ≤ 65536 }
+        requires agents { (bus : ℕ) → bus < 256 → slice_index self.old.agents bus ≤ most_agents }
+        requires operations { self.old.operations + tries ≤ most_tries }
         ensures { OnOk result (IsGrown self.old self.new (name_and_bus agent) tries) }
     {
         if let Some(agent) = agent {
@@ -99,7 +101,7 @@ impl Counts {
     }
 
     fn add_agent(&mut self, agent: Agent) -> Result<(), NoMemory>
-        requires { slice_index self.old.agents agent.bus ≤ 8 }
+        requires { slice_index self.old.agents agent.bus ≤ most_agents }
         ensures { OnOk result (IsGrown self.old self.new (name_and_bus (Some agent)) 0) }
     {
         let Agent { name, bus } = agent;

@@ -8,7 +8,7 @@ ghost use Rattle.board_parser.specs.draft.Masters.{add_master, is_aligned, passe
 use crate::draft::add::close;
 use crate::draft::lists::{empty, push};
 use crate::draft::{AddFault, AgentPlace, Draft};
-use board_model::{Master, Name, Op, tries_of};
+use board_model::{MOST_OPS, MOST_TRIES, Master, Name, Op, tries_of};
 use std::alloc::Global;
 use text_faults::LineFault;
 
@@ -76,8 +76,8 @@ pub(crate) fn add_op(
     if too_many || passes_block(&op) {
         return Err(AddFault::Fault(LineFault::PastItsBlock));
     }
-    if master.ops.as_slice().len() >= 1024
-        || u64::from(before) + u64::from(tries_of(&op)) > 65_536
+    if master.ops.as_slice().len() >= MOST_OPS
+        || u64::from(before) + u64::from(tries_of(&op)) > u64::from(MOST_TRIES)
     {
         return Err(AddFault::Fault(LineFault::OverLimit));
     }

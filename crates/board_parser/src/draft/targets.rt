@@ -10,7 +10,9 @@ ghost use Rattle.board_parser.specs.draft.Targets.{add_range, add_abort, add_ope
 use crate::draft::add::close;
 use crate::draft::lists::{empty, push};
 use crate::draft::{AddFault, AgentPlace, Draft};
-use board_model::{Name, Opening, Range, Target, registers_fit, registers_of};
+use board_model::{
+    MOST_DWORDS, MOST_OPENINGS, Name, Opening, Range, Target, registers_fit, registers_of,
+};
 use pci_command::Space;
 use std::alloc::Global;
 use text_faults::LineFault;
@@ -46,7 +48,7 @@ fn new_target(alloc: Global, name: Name, bus: u8, device: u8) -> Target
         vendor: 0x1234,
         model: 0x0001,
         stalls: 0,
-        burst: 8,
+        burst: MOST_DWORDS as u8,
         ranges: empty(alloc),
         aborts: empty(alloc),
         openings: empty(alloc),
@@ -152,7 +154,7 @@ pub(crate) fn add_opening(
     if opening.address % 4 != 0 {
         return Err(AddFault::Fault(LineFault::Unaligned));
     }
-    if target.openings.as_slice().len() >= 256 {
+    if target.openings.as_slice().len() >= MOST_OPENINGS {
         return Err(AddFault::Fault(LineFault::OverLimit));
     }
     push(alloc, &mut target.openings, opening)?;

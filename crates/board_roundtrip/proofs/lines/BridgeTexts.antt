@@ -4,6 +4,7 @@ use Rattle.std.specs.Prelude.{codes}
 use Rattle.std.specs.Str.{bytes_eq}
 use Rattle.std.specs.Fmt.{decimal}
 use Rattle.std.proofs.lemmas.Bool.{lt-ltb, eqb-true}
+use Rattle.board_model.specs.Limits.{most_posted, most_delayed}
 use Rattle.board_model.specs.declared.bridge.Window.{Window}
 use Rattle.board_model.specs.declared.bridge.Bridge.{Bridge}
 use Rattle.board_model.specs.WellFormed.{is_window, is_well_formed_bridge}
@@ -65,13 +66,14 @@ window_is_read word wide (Some it) rest same may behind =
 abbrev depth_so : ℕ → List (List ℕ) → Result (ℕ × List (List ℕ)) LineFault
 depth_so n rest = Ok (n, rest)
 
-depth_is_read : (word : List ℕ) (n : ℕ) (rest : List (List ℕ)) → bytes_eq word word ≡ true → 1 ≤ n → n ≤ 8 → begins_with word rest ≡ false → depth word (depth_words word n ++ rest) ≡ depth_so n rest
+depth_is_read : (word : List ℕ) (most n : ℕ) (rest : List (List ℕ)) → bytes_eq word word ≡ true → 1 ≤ n → n ≤ most → most < 2 ^ 32
+    → begins_with word rest ≡ false → depth word most (depth_words word n ++ rest) ≡ depth_so n rest
 unfolding depth
-depth_is_read word n rest same some few behind =
-    let P : Bool → Type 0 = λ b. eqb n 4 ≡ b → depth word (cond b [] (word ∷ decimal n ∷ []) ++ rest) ≡ depth_so n rest in
+depth_is_read word most n rest same some few small behind =
+    let P : Bool → Type 0 = λ b. eqb n 4 ≡ b → depth word most (cond b [] (word ∷ decimal n ∷ []) ++ rest) ≡ depth_so n rest in
     (elim (eqb n 4) as P [
       | true ↦ λ four. rw behind (ap (λ (d : ℕ). depth_so d rest) (sym (eqb-true _ _ four)))
-      | false ↦ λ other. rw (same, decimal_is_read 1 8 n some few (omega arith)) refl
+      | false ↦ λ other. rw (same, decimal_is_read 1 most n some few small) refl
     ]) refl
 
 abbrev mode_so : Bool → Result (Bool × List (List ℕ)) LineFault
@@ -129,7 +131,7 @@ bridge_is_read wide bridge fits formed may =
       window_is_read (codes "mem") false bridge.mem prefs refl (may_short (2 ^ 20) bridge.mem it.mem) mem_prefs,
       window_is_read (codes "pref") wide bridge.pref ios refl (may_long wide (2 ^ 20) bridge.pref it.pref (pref_may wide bridge may)) pref_ios,
       window_is_read (codes "io") false bridge.io posts refl (may_short (2 ^ 12) bridge.io it.io) io_posts,
-      depth_is_read (codes "posted") bridge.posted delays refl it.posted.from it.posted.to posted_delays,
-      depth_is_read (codes "delayed") bridge.delayed modes refl it.delayed.from it.delayed.to delayed_modes,
+      depth_is_read (codes "posted") most_posted bridge.posted delays refl it.posted.from it.posted.to (omega arith) posted_delays,
+      depth_is_read (codes "delayed") most_delayed bridge.delayed modes refl it.delayed.from it.delayed.to (omega arith) delayed_modes,
       mode_is_read bridge.mode,
     ) refl

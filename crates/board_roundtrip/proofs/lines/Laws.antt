@@ -6,6 +6,7 @@ use Rattle.std.specs.Fmt.{decimal}
 use Rattle.std.proofs.lemmas.Bool.Decides.{nat_tests}
 use Rattle.board_text.specs.Lines.{line_fault}
 use Rattle.board_text.specs.Tokens.{words_of}
+use Rattle.board_model.specs.Limits.{most_dwords}
 use Rattle.board_model.specs.declared.bridge.Bridge.{Bridge}
 use Rattle.board_model.specs.declared.agents.Range.{Range}
 use Rattle.board_model.specs.declared.agents.Opening.{Opening}
@@ -66,7 +67,7 @@ id_law wide vendor model of_vendor of_model =
 pub stall_law : (wide : Bool) (tokens : ℕ) → tokens ≤ 1000000 → IsReadAs wide (codes "stall" ∷ decimal tokens ∷ []) (Stalls tokens)
 stall_law wide tokens few = reads_as wide (codes "stall" ∷ decimal tokens ∷ []) (Stalls tokens) (rw (decimal_word tokens (omega arith)) refl) (let a = decimal_width tokens (omega arith) in omega (arith, a)) (stall_is_read wide tokens few)
 
-pub burst_law : (wide : Bool) (phases : ℕ) → 1 ≤ phases → phases ≤ 8 → IsReadAs wide (codes "burst" ∷ decimal phases ∷ []) (Bursts phases)
+pub burst_law : (wide : Bool) (phases : ℕ) → 1 ≤ phases → phases ≤ most_dwords → IsReadAs wide (codes "burst" ∷ decimal phases ∷ []) (Bursts phases)
 burst_law wide phases some few = reads_as wide (codes "burst" ∷ decimal phases ∷ []) (Bursts phases) (rw (decimal_word phases (omega arith)) refl) (let a = decimal_width phases (omega arith) in omega (arith, a)) (burst_is_read wide phases some few)
 
 pub claim_law : (wide : Bool) (range : Range) → RangeFits range → is_well_formed_range range ≡ true → (wide || is_short_range range) ≡ true → IsReadAs wide (range_line (codes "range") range) (Claims range)

@@ -11,6 +11,7 @@ use Rattle.pci_command.specs.declared.command.Space.TheVariants.{Mem, Io, Cfg}
 use Rattle.pci_command.specs.declared.command.Command.{Command}
 use Rattle.pci_command.specs.declared.command.Command.TheVariants.{IoRead, IoWrite, MemRead, MemWrite, CfgRead as ConfigurationRead, CfgWrite as ConfigurationWrite, MemReadMultiple, MemReadLine, MemWriteInvalidate}
 use Rattle.pci_command.specs.declared.phases.Phase.{Phase}
+use Rattle.board_model.specs.Limits.{most_dwords, most_tries}
 use Rattle.board_model.specs.declared.op.Op.{Op}
 use Rattle.board_model.specs.declared.op.Op.TheVariants.{Read, Write, CfgRead, CfgWrite, Poll}
 use Rattle.board_model.specs.declared.agents.Master.{Master}
@@ -65,20 +66,22 @@ phases_are_read (phase ∷ phases) fits formed =
 abbrev burst_so : List Phase → Result ((List Phase × Bool) × List (List ℕ)) LineFault
 burst_so phases = Ok ((phases, false), [])
 
-burst_is_read : (phases : List Phase) → AllByRecursion PhaseFits phases → list_all is_well_formed_phase phases ≡ true → 1 ≤ length phases → length phases ≤ 8 → burst_words (map phase_text phases) ≡ burst_so phases
+burst_is_read : (phases : List Phase) → AllByRecursion PhaseFits phases → list_all is_well_formed_phase phases ≡ true → 1 ≤ length phases
+    → length phases ≤ most_dwords → burst_words (map phase_text phases) ≡ burst_so phases
 unfolding burst_words
 burst_is_read [] fits formed some few = absurd (omega arith)
 burst_is_read (phase ∷ phases) fits formed some few =
     let bits : phase.enables ≤ 15 = grind (arith, nat_tests) in
     let others : list_all is_well_formed_phase phases ≡ true = grind (arith, nat_tests) in
-    let short : ltb 8 (length (phase ∷ phases)) ≡ false = le-ltb _ _ few in
-    let all : take 8 (phase ∷ phases) ≡ phase ∷ phases = take_all 8 (phase ∷ phases) few in
-    rw (phase_is_read phase fits.0 bits, phases_are_read phases fits.1 others) (ap (λ (kept : List Phase). burst_kept kept (ltb 8 (length (phase ∷ phases)))) all ∙ ap (burst_kept (phase ∷ phases)) short)
+    let short : ltb most_dwords (length (phase ∷ phases)) ≡ false = le-ltb _ _ few in
+    let all : take most_dwords (phase ∷ phases) ≡ phase ∷ phases = take_all most_dwords (phase ∷ phases) few in
+    rw (phase_is_read phase fits.0 bits, phases_are_read phases fits.1 others) (ap (λ (kept : List Phase). burst_kept kept (ltb most_dwords (length (phase ∷ phases)))) all ∙ ap (burst_kept (phase ∷ phases)) short)
   where
     burst_kept : List Phase → Bool → Result ((List Phase × Bool) × List (List ℕ)) LineFault
     burst_kept kept many = Ok ((kept, many), [])
 
-burst_write_is_read : (wide : Bool) (address : ℕ) (phases : List Phase) → address < 2 ^ 64 → AllByRecursion PhaseFits phases → list_all is_well_formed_phase phases ≡ true → 1 ≤ length phases → length phases ≤ 8 → (wide || is_short address) ≡ true
+burst_write_is_read : (wide : Bool) (address : ℕ) (phases : List Phase) → address < 2 ^ 64 → AllByRecursion PhaseFits phases → list_all is_well_formed_phase phases ≡ true
+    → 1 ≤ length phases → length phases ≤ most_dwords → (wide || is_short address) ≡ true
     → (statement_of wide (write_line MemWrite address phases) ≡ Ok (Does (Write MemWrite address phases) false)) × (statement_of wide (write_line MemWriteInvalidate address phases) ≡ Ok (Does (Write MemWriteInvalidate address phases) false))
 unfolding statement_of statement_form behind_word line_form burst_write_form
 burst_write_is_read wide address phases fits values formed some few may =
@@ -100,12 +103,12 @@ write_is_read : (wide : Bool) (command : Command) (address : ℕ) (phases : List
 write_is_read wide MemWrite address phases fits values formed may =
     let words : list_all is_well_formed_phase phases ≡ true = grind (arith, nat_tests) in
     let some : 1 ≤ length phases = grind (arith, nat_tests) in
-    let few : length phases ≤ 8 = grind (arith, nat_tests) in
+    let few : length phases ≤ most_dwords = grind (arith, nat_tests) in
     (burst_write_is_read wide address phases fits values words some few may).0
 write_is_read wide MemWriteInvalidate address phases fits values formed may =
     let words : list_all is_well_formed_phase phases ≡ true = grind (arith, nat_tests) in
     let some : 1 ≤ length phases = grind (arith, nat_tests) in
-    let few : length phases ≤ 8 = grind (arith, nat_tests) in
+    let few : length phases ≤ most_dwords = grind (arith, nat_tests) in
     (burst_write_is_read wide address phases fits values words some few may).1
 write_is_read wide IoWrite address phases fits values formed may =
     let words : list_all is_well_formed_phase phases ≡ true = grind (arith, nat_tests) in
@@ -119,18 +122,19 @@ write_is_read wide MemReadLine address phases fits values formed may = absurd (l
 write_is_read wide ConfigurationRead address phases fits values formed may = absurd (let apart : false ≡ true = formed in cc)
 write_is_read wide ConfigurationWrite address phases fits values formed may = absurd (let apart : false ≡ true = formed in cc)
 
-poll_is_read : (wide : Bool) (space : Space) (address mask value tries : ℕ) → address < 2 ^ 64 → mask < 2 ^ 32 → value < 2 ^ 32 → (is_dword_in space address && is_within 1 65536 tries) ≡ true → (wide || is_short address) ≡ true
+poll_is_read : (wide : Bool) (space : Space) (address mask value tries : ℕ) → address < 2 ^ 64 → mask < 2 ^ 32 → value < 2 ^ 32
+    → (is_dword_in space address && is_within 1 most_tries tries) ≡ true → (wide || is_short address) ≡ true
     → statement_of wide (op_line (Poll space address mask value tries)) ≡ Ok (Does (Poll space address mask value tries) false)
 unfolding statement_of statement_form behind_word line_form poll_form
 poll_is_read wide Mem address mask value tries fits of_mask of_value formed may =
     let some : 1 ≤ tries = grind (arith, nat_tests) in
-    let few : tries ≤ 65536 = grind (arith, nat_tests) in
-    rw (address_is_read wide address fits may, word_is_read mask of_mask, word_is_read value of_value, decimal_is_read 1 65536 tries some few (omega arith)) refl
+    let few : tries ≤ most_tries = grind (arith, nat_tests) in
+    rw (address_is_read wide address fits may, word_is_read mask of_mask, word_is_read value of_value, decimal_is_read 1 most_tries tries some few (omega arith)) refl
 poll_is_read wide Io address mask value tries fits of_mask of_value formed may =
     let some : 1 ≤ tries = grind (arith, nat_tests) in
-    let few : tries ≤ 65536 = grind (arith, nat_tests) in
+    let few : tries ≤ most_tries = grind (arith, nat_tests) in
     let below : address < 2 ^ 32 = grind (arith, nat_tests) in
-    rw (port_is_read address below, word_is_read mask of_mask, word_is_read value of_value, decimal_is_read 1 65536 tries some few (omega arith)) refl
+    rw (port_is_read address below, word_is_read mask of_mask, word_is_read value of_value, decimal_is_read 1 most_tries tries some few (omega arith)) refl
 poll_is_read wide Cfg address mask value tries fits of_mask of_value formed may = absurd (let apart : false ≡ true = formed in cc)
 
 register_read_is_read : (wide : Bool) (bus device register : ℕ) → bus < 2 ^ 8 → is_well_formed_op (CfgRead bus device register) ≡ true → statement_of wide (op_line (CfgRead bus device register)) ≡ Ok (Does (CfgRead bus device register) false)

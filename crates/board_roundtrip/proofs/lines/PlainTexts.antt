@@ -13,6 +13,7 @@ use Rattle.pci_command.specs.declared.command.Space.TheVariants.{Mem, Io, Cfg}
 use Rattle.pci_command.specs.declared.command.Command.{Command}
 use Rattle.pci_command.specs.declared.command.Command.TheVariants.{IoRead, IoWrite, MemRead, MemWrite, CfgRead as ConfigurationRead, CfgWrite as ConfigurationWrite, MemReadMultiple, MemReadLine, MemWriteInvalidate}
 use Rattle.pci_command.specs.declared.phases.Phase.{Phase}
+use Rattle.board_model.specs.Limits.{most_posted, most_delayed}
 use Rattle.board_model.specs.Names.{is_name, is_name_start, is_name_byte}
 use Rattle.board_model.specs.declared.bridge.Window.{Window}
 use Rattle.board_model.specs.declared.bridge.Bridge.{Bridge}
@@ -203,7 +204,7 @@ mode_plain false = refl
 join_plain : (words more : List (List ℕ)) → list_all is_word words ≡ true → list_all is_word more ≡ true → list_all is_word (words ++ more) ≡ true
 join_plain words more front back = list_all-append is_word words more ∙ rw (front, back) refl
 
-pub bridge_plain : (bridge : Bridge) → BridgeFits bridge → bridge.device ≤ 31 → bridge.posted ≤ 8 → bridge.delayed ≤ 8 → list_all is_word (bridge_line bridge) ≡ true
+pub bridge_plain : (bridge : Bridge) → BridgeFits bridge → bridge.device ≤ 31 → bridge.posted ≤ most_posted → bridge.delayed ≤ most_delayed → list_all is_word (bridge_line bridge) ≡ true
 bridge_plain bridge fits of_device of_posted of_delayed =
     let of_bus = fits.bus in
     let of_parent = fits.parent in

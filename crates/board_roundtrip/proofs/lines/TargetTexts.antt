@@ -6,6 +6,7 @@ use Rattle.std.proofs.lemmas.Bool.{lt-ltb}
 use Rattle.std.proofs.lemmas.Bool.Decides.{nat_tests}
 use Rattle.pci_command.specs.declared.command.Space.{Space}
 use Rattle.pci_command.specs.declared.command.Space.TheVariants.{Mem, Io, Cfg}
+use Rattle.board_model.specs.Limits.{most_dwords}
 use Rattle.board_model.specs.declared.agents.Range.{Range}
 use Rattle.board_model.specs.declared.agents.Opening.{Opening}
 use Rattle.board_model.specs.declared.agents.Target.{Target}
@@ -40,9 +41,9 @@ pub stall_is_read : (wide : Bool) (tokens : ℕ) → tokens ≤ 1000000 → stat
 unfolding statement_of statement_form behind_word line_form stall_form
 stall_is_read wide tokens few = rw (decimal_is_read 0 1000000 tokens (omega arith) few (omega arith)) refl
 
-pub burst_is_read : (wide : Bool) (phases : ℕ) → 1 ≤ phases → phases ≤ 8 → statement_of wide (codes "burst" ∷ decimal phases ∷ []) ≡ Ok (Bursts phases)
+pub burst_is_read : (wide : Bool) (phases : ℕ) → 1 ≤ phases → phases ≤ most_dwords → statement_of wide (codes "burst" ∷ decimal phases ∷ []) ≡ Ok (Bursts phases)
 unfolding statement_of statement_form behind_word line_form burst_form
-burst_is_read wide phases some few = rw (decimal_is_read 1 8 phases some few (omega arith)) refl
+burst_is_read wide phases some few = rw (decimal_is_read 1 most_dwords phases some few (omega arith)) refl
 
 -- a word that may be long where the whole may
 pub first_may : (wide a b : Bool) → (wide || (a && b)) ≡ true → (wide || a) ≡ true

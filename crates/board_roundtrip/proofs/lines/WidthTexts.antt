@@ -10,6 +10,7 @@ use Rattle.pci_command.specs.declared.command.Space.TheVariants.{Mem, Io, Cfg}
 use Rattle.pci_command.specs.declared.command.Command.{Command}
 use Rattle.pci_command.specs.declared.command.Command.TheVariants.{IoRead, IoWrite, MemRead, MemWrite, CfgRead as ConfigurationRead, CfgWrite as ConfigurationWrite, MemReadMultiple, MemReadLine, MemWriteInvalidate}
 use Rattle.pci_command.specs.declared.phases.Phase.{Phase}
+use Rattle.board_model.specs.Limits.{most_posted, most_delayed}
 use Rattle.board_model.specs.Names.{is_name}
 use Rattle.board_model.specs.declared.bridge.Window.{Window}
 use Rattle.board_model.specs.declared.bridge.Bridge.{Bridge}
@@ -182,7 +183,7 @@ mode_width : (mode : Bool) → width (mode_words mode) ≤ 8
 mode_width true = omega arith
 mode_width false = omega arith
 
-options_width : (bridge : Bridge) → bridge.posted ≤ 8 → bridge.delayed ≤ 8 → width (option_words bridge) ≤ 170
+options_width : (bridge : Bridge) → bridge.posted ≤ most_posted → bridge.delayed ≤ most_delayed → width (option_words bridge) ≤ 170
 options_width bridge of_posted of_delayed =
     let modes = mode_words bridge.mode in
     let delays = depth_words (codes "delayed") bridge.delayed ++ modes in
@@ -202,7 +203,7 @@ options_width bridge of_posted of_delayed =
     let mode = mode_width bridge.mode in
     omega (arith, a, b, c, d, e, mem, pref, io, posted, delayed, mode)
 
-pub bridge_width : (bridge : Bridge) → BridgeFits bridge → bridge.device ≤ 31 → bridge.posted ≤ 8 → bridge.delayed ≤ 8 → width (bridge_line bridge) ≤ 257
+pub bridge_width : (bridge : Bridge) → BridgeFits bridge → bridge.device ≤ 31 → bridge.posted ≤ most_posted → bridge.delayed ≤ most_delayed → width (bridge_line bridge) ≤ 257
 bridge_width bridge fits of_device of_posted of_delayed =
     let below = fits.bus in
     let above = fits.parent in

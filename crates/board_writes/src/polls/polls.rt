@@ -6,6 +6,7 @@ ghost use Rattle.board_writes.specs.Polls.{told_at, raisers_at, raised_at};
 ghost use Rattle.board_writes.specs.Rows.{KeepsPolls, table_of};
 ghost use Rattle.board_writes.specs.Looks.{IsOrdered, TellAlike};
 ghost use Rattle.board_writes.specs.Writes.{ListsWrites};
+ghost use Rattle.board_model.specs.Limits.{most_ops};
 
 use crate::known::{ClockTable, raised};
 use crate::polls::kept::{KeptPoll, kept_of};
@@ -175,7 +176,7 @@ fn polls_of(
     ops: &[Op],
 ) -> Result<ProgramPolls, NoMemory>
     requires decodable { IsDecodable board.now }
-    requires few { length ops.now ≤ 1024 }
+    requires few { length ops.now ≤ most_ops }
     requires writers { ListsWrites board.now writers.now }
     ensures { IfOk result (KnowsProgram board.now master (length ops.now)) }
 {

@@ -5,6 +5,7 @@ ghost use Rattle.board_tree.specs.Decodable.{IsDecodable};
 ghost use Rattle.audit_clocks.specs.Tables.{dword};
 ghost use Rattle.safe_model.specs.Ops.{ops_by, ops_from};
 ghost use Rattle.board_writes.specs.Writes.{words_from, kept_for, kept_of, kept_by, Adds};
+ghost use Rattle.board_model.specs.Limits.{most_ops};
 
 use crate::writers::named::first_named;
 use crate::writers::words::Words;
@@ -35,7 +36,7 @@ fn list_program(
     ops: &[Op],
 ) -> Result<(), NoMemory>
     requires decodable { IsDecodable board.now }
-    requires few { length ops.now ≤ 1024 }
+    requires few { length ops.now ≤ most_ops }
     ensures { OnOk result (Adds (λ q. kept_by board.now (dword q) (ops_from master 0 ops.now))
         writers.old writers.new) }
 {

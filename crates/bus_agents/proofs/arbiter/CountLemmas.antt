@@ -3,6 +3,7 @@ use Rattle.std.proofs.Common.{◌≡◌, ℕ, zero, suc, ◌+◌, ◌-◌, ◌/�
 use Rattle.std.proofs.Math.Nat.{div-div-eq-div-mul, div-eq_of_lt, pow-suc}
 use lib.Count.{ones, ones_step}
 use Rattle.std.specs.Int.{bit_at}
+use Rattle.board_model.specs.Limits.{request_lines}
 
 -- how many of the `steps` lines from `from` on ask
 unfoldable pub asking : ℕ → ℕ → ℕ → ℕ
@@ -12,13 +13,13 @@ asking lines from (suc steps) = asking lines from steps + bit_at lines (from + s
 -- the same, in the circle of 32
 unfoldable pub asking_round : ℕ → ℕ → ℕ → ℕ
 asking_round lines from zero = 0
-asking_round lines from (suc steps) = asking_round lines from steps + bit_at lines ((from + steps) % 32)
+asking_round lines from (suc steps) = asking_round lines from steps + bit_at lines ((from + steps) % request_lines)
 
 pub asking_round-zero : (lines from : ℕ) → asking_round lines from 0 ≡ 0
 unfolding asking_round
 asking_round-zero lines from = refl
 
-pub asking_round-suc : (lines from steps : ℕ) → asking_round lines from (suc steps) ≡ asking_round lines from steps + bit_at lines ((from + steps) % 32)
+pub asking_round-suc : (lines from steps : ℕ) → asking_round lines from (suc steps) ≡ asking_round lines from steps + bit_at lines ((from + steps) % request_lines)
 unfolding asking_round
 asking_round-suc lines from steps = refl
 
@@ -44,32 +45,33 @@ asking-join lines from (suc steps) =
     omega (arith, asking-join lines from steps, there)
 
 -- before line 31 the circle is a line
-asking_round-low : (lines from steps : ℕ) → from + steps ≤ 32 → asking_round lines from steps ≡ asking lines from steps
+asking_round-low : (lines from steps : ℕ) → from + steps ≤ request_lines → asking_round lines from steps ≡ asking lines from steps
 unfolding asking asking_round
 asking_round-low lines from zero h = refl
 asking_round-low lines from (suc steps) h =
-    let there : bit_at lines ((from + steps) % 32) ≡ bit_at lines (from + steps) = ap (bit_at lines) (omega arith) in
+    let there : bit_at lines ((from + steps) % request_lines) ≡ bit_at lines (from + steps) = ap (bit_at lines) (omega arith) in
     omega (arith, asking_round-low lines from steps (omega arith), there)
 
 -- and behind it begins with line 0
-asking_round-high : (lines from steps : ℕ) → from ≤ 32 → steps ≤ from → asking_round lines from ((32 - from) + steps) ≡ asking lines from (32 - from) + asking lines 0 steps
+asking_round-high : (lines from steps : ℕ) → from ≤ request_lines → steps ≤ from
+    → asking_round lines from ((request_lines - from) + steps) ≡ asking lines from (request_lines - from) + asking lines 0 steps
 unfolding asking asking_round
 asking_round-high lines from zero f h =
-    let same : asking_round lines from ((32 - from) + 0) ≡ asking_round lines from (32 - from) = ap (asking_round lines from) (omega arith) in
-    omega (arith, asking_round-low lines from (32 - from) (omega arith))
+    let same : asking_round lines from ((request_lines - from) + 0) ≡ asking_round lines from (request_lines - from) = ap (asking_round lines from) (omega arith) in
+    omega (arith, asking_round-low lines from (request_lines - from) (omega arith))
 asking_round-high lines from (suc steps) f h =
-    let more : (32 - from) + suc steps ≡ suc ((32 - from) + steps) = omega arith in
-    let whole : asking_round lines from ((32 - from) + suc steps) ≡ asking_round lines from (suc ((32 - from) + steps)) = ap (asking_round lines from) more in
-    let there : bit_at lines ((from + ((32 - from) + steps)) % 32) ≡ bit_at lines (0 + steps) = ap (bit_at lines) (omega arith) in
+    let more : (request_lines - from) + suc steps ≡ suc ((request_lines - from) + steps) = omega arith in
+    let whole : asking_round lines from ((request_lines - from) + suc steps) ≡ asking_round lines from (suc ((request_lines - from) + steps)) = ap (asking_round lines from) more in
+    let there : bit_at lines ((from + ((request_lines - from) + steps)) % request_lines) ≡ bit_at lines (0 + steps) = ap (bit_at lines) (omega arith) in
     omega (arith, asking_round-high lines from steps f (omega arith), there)
 
 -- once round the circle meets all lines that ask
-pub asking_round-all : (lines from : ℕ) → lines < 2 ^ 32 → from ≤ 32 → asking_round lines from 32 ≡ count_ones lines
+pub asking_round-all : (lines from : ℕ) → lines < 2 ^ 32 → from ≤ request_lines → asking_round lines from 32 ≡ count_ones lines
 unfolding ones
 asking_round-all lines from fits f =
-    let high : asking_round lines from ((32 - from) + from) ≡ asking lines from (32 - from) + asking lines 0 from = asking_round-high lines from from f (omega arith) in
-    let whole : asking_round lines from ((32 - from) + from) ≡ asking_round lines from 32 = ap (asking_round lines from) (omega arith) in
-    let joined : asking lines 0 (from + (32 - from)) ≡ asking lines 0 from + asking lines from (32 - from) = asking-join lines from (32 - from) in
-    let straight : asking lines 0 (from + (32 - from)) ≡ asking lines 0 32 = ap (asking lines 0) (omega arith) in
+    let high : asking_round lines from ((request_lines - from) + from) ≡ asking lines from (request_lines - from) + asking lines 0 from = asking_round-high lines from from f (omega arith) in
+    let whole : asking_round lines from ((request_lines - from) + from) ≡ asking_round lines from 32 = ap (asking_round lines from) (omega arith) in
+    let joined : asking lines 0 (from + (request_lines - from)) ≡ asking lines 0 from + asking lines from (request_lines - from) = asking-join lines from (request_lines - from) in
+    let straight : asking lines 0 (from + (request_lines - from)) ≡ asking lines 0 32 = ap (asking lines 0) (omega arith) in
     let none : count_ones (lines / 2 ^ 32) ≡ 0 = ap count_ones (div-eq_of_lt fits) in
     omega (arith, count_ones-digits lines 32)

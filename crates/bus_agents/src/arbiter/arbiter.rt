@@ -1,13 +1,15 @@
 ghost use Rattle.std.specs.Prelude.{◌≡◌, ◌+◌, ◌%◌, ◌<◌, ◌≤◌, ◌↔◌, ℕ, List, length, count_ones};
 ghost use Rattle.std.specs.Prelude.{IsNone, IfSome, OnSome, IfNone};
+ghost use Rattle.board_model.specs.Limits.{request_lines};
 ghost use Rattle.bus_agents.specs.arbiter.Grant.{Asks, IsGranted, Grants, EachOnce, line_behind};
 
+use board_model::REQUEST_LINES;
 use std::marker::Model;
 
 /// How many request lines there are.
-const LINES: u8 = 32;
+const LINES: u8 = REQUEST_LINES;
 
-/// An arbiter of 32 request lines. A contract sees it as the line with which its next search
+/// An arbiter of request lines, each a bit of a word. A contract sees it as the line with which its next search
 /// begins: line 0 at first, and then the one behind the last granted line, in a circle.
 #[derive(Clone, Copy, Debug, PartialEq, Eq)]
 pub struct Arbiter {
@@ -16,12 +18,13 @@ pub struct Arbiter {
 
 impl Model for Arbiter {
     ghost use Rattle.std.specs.Prelude.{ℕ, ◌<◌};
+    ghost use Rattle.board_model.specs.Limits.{request_lines};
 
     ghost Value = { ℕ };
 
     ghost view = { λ arbiter. arbiter.next };
 
-    ghost invariant = { λ arbiter. arbiter.next < 32 };
+    ghost invariant = { λ arbiter. arbiter.next < request_lines };
 
     ghost inverse = { λ line. record { next = line } };
 }
@@ -70,7 +73,7 @@ impl Default for Arbiter {
 
 /// The first line that asks, where the search begins with `from` and goes round the circle.
 fn first_from(from: u8, lines: u32) -> u8
-    requires line { from < 32 }
+    requires line { from < request_lines }
     requires asked { 0 < lines }
     ensures { IsGranted from lines result }
 {
@@ -85,7 +88,7 @@ fn first_from(from: u8, lines: u32) -> u8
 /// The lowest line that asks.
 fn lowest(lines: u32) -> u8
     requires { 0 < lines }
-    ensures line { result < 32 }
+    ensures line { result < request_lines }
     ensures asks { Asks lines result }
     ensures least { (other : ℕ) → other < result → ¬ Asks lines other }
 {

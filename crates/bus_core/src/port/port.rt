@@ -8,9 +8,10 @@ ghost use Rattle.history_model.specs.Answers.{bridge_to};
 ghost use Rattle.bus_face.specs.Arrivals.{carried};
 ghost use Rattle.bus_core.specs.port.Port.{PortView};
 ghost use Rattle.bus_core.specs.port.Calls.{OtherBridgesLeave};
+ghost use Rattle.board_model.specs.Limits.{most_posted, most_delayed};
 
 use arrayvec::ArrayVec;
-use board_model::{Board, Bridge, Lane};
+use board_model::{Board, Bridge, Lane, MOST_OFFERS};
 use bus_agents::LaneMarks;
 use bus_face::{Face, Offer, Reply};
 use history_model::{Carried, Mark};
@@ -53,8 +54,8 @@ impl Port {
 
     /// The bridge where this lane of it ends, before the first event.
     pub fn new(alloc: Global, board: &Board, bridge: &Bridge, lane: Lane) -> Result<Port, NoMemory>
-        requires posted { (1 ≤ bridge.now.posted) × (bridge.now.posted ≤ 8) }
-        requires delayed { (1 ≤ bridge.now.delayed) × (bridge.now.delayed ≤ 8) }
+        requires posted { (1 ≤ bridge.now.posted) × (bridge.now.posted ≤ most_posted) }
+        requires delayed { (1 ≤ bridge.now.delayed) × (bridge.now.delayed ≤ most_delayed) }
         ensures lane { IfOk result (λ port. port.lane ≡ lane) }
         ensures none { IfOk result (λ port. port.face.arrivals ≡ 0) }
         ensures first { IfOk result (λ port. bridge_to board.now lane.bus ≡ Some bridge.now →
@@ -113,7 +114,7 @@ impl Port {
     }
 
     /// The items that the lane presents on this bus now, in the order in which they came.
-    pub fn offers(&self) -> ArrayVec<Offer, 16>
+    pub fn offers(&self) -> ArrayVec<Offer, MOST_OFFERS>
         ensures kept { result.items ≡ offers_of self.now.face }
         ensures offers { PortOffers self.now result.items }
     {

@@ -1,5 +1,6 @@
 -- What is known of a turn by its steps.
 use Rattle.std.proofs.Common.{◌≡◌, ℕ, ◌-◌, ◌≤◌, Bool, true, false, ◌||◌, List, length, refl, arith}
+use Rattle.board_model.specs.Limits.{most_of_a_turn}
 use Rattle.board_model.specs.declared.board.Board.{Board}
 use Rattle.lane_items.specs.declared.item.Item.{Item}
 use Rattle.bus_segment.specs.Steps.{ArrivedUpTo}
@@ -9,7 +10,7 @@ use Rattle.bus_segment.specs.turns.Works.{Works}
 use Rattle.bus_segment.specs.turns.Again.{segment_of, DoesTurn}
 
 -- all events of the steps are those of the turn
-pub works_turn : {End : Type 0} (had sent got : End → List Item) (kept : End → ℕ) (paired : End → End → Type 0) (board : Board) (limit : ℕ) (old new : Worker End) (count : ℕ) → limit ≤ 440
+pub works_turn : {End : Type 0} (had sent got : End → List Item) (kept : End → ℕ) (paired : End → End → Type 0) (board : Board) (limit : ℕ) (old new : Worker End) (count : ℕ) → limit ≤ most_of_a_turn
     → Works had sent got kept paired board limit (segment_of old) (segment_of new) old.segment.ends.items new.segment.ends.items old.segment.events.items new.segment.events.items → ArrivedUpTo (length old.segment.events.items) old.segment.bus
     → count ≡ length new.segment.events.items - length old.segment.events.items
     → (length new.segment.events.items ≡ length old.segment.events.items → new.segment.stopped ≡ false → HasNothingToDo had got board (segment_of old) new.segment.ends.items) → DoesTurn had sent got kept paired board old new count

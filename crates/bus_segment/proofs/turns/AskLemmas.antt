@@ -7,6 +7,7 @@ use Rattle.std.proofs.lemmas.Bool.{eqb-true, eqb-false, cases_lt}
 use Rattle.std.proofs.lemmas.Option.{slice_get_within}
 use Rattle.std.proofs.lemmas.List.{length-map}
 use Rattle.std.proofs.lemmas.Nat.Bits.{bit_at-zero, bit_at_or}
+use Rattle.board_model.specs.Limits.{most_ports}
 use Rattle.history_model.specs.declared.event.By.{By}
 use Rattle.history_model.specs.declared.event.By.TheVariants.{Master, Lane as ByLane}
 use Rattle.history_model.specs.Program.{turn_of}
@@ -34,7 +35,7 @@ is_none None is = refl
 is_none (Some x) is = cc
 
 -- a lane that offers nothing presents nothing
-pub lane_silent : (s : BusView) (place : ℕ) (offers : List Offer) → place < 9 → BusOffers place s offers → offers ≡ [] → IsSilent s place
+pub lane_silent : (s : BusView) (place : ℕ) (offers : List Offer) → place < most_ports → BusOffers place s offers → offers ≡ [] → IsSilent s place
 lane_silent s place offers low all none =
     record {
       silent = λ by o is.
@@ -46,11 +47,11 @@ lane_silent s place offers low all none =
     }
 
 -- a master whose program ended presents nothing
-pub master_silent : (s : BusView) (place : ℕ) → length s.ports ≤ 9 → WantsAt place s.masters None → IsSilent s (9 + place)
+pub master_silent : (s : BusView) (place : ℕ) → length s.ports ≤ most_ports → WantsAt place s.masters None → IsSilent s (most_ports + place)
 master_silent s place few none =
     record {
       silent = λ by o is.
-          let P : By → Type 0 = λ b. HasLine (shape_of s) (9 + place) b o → NeverWants s b o in
+          let P : By → Type 0 = λ b. HasLine (shape_of s) (most_ports + place) b o → NeverWants s b o in
           (elim by as P [
             | Master ↦ λ at.
                 record {
@@ -63,7 +64,7 @@ master_silent s place few none =
                       let turn : turn_of board p o.master ≡ None = ap (turn_of board p) (sym master) ∙ (sym (stands.masters place none.master none.there).turn ∙ none.turn_is) in
                       no_turn (is_on s.bus (slice_get board.masters o.master)) (is_turn o (turn_of board p o.master)) (ap (is_turn o) turn);
                 }
-            | ByLane lane ↦ λ at. absurd (let within = slice_get_within (shape_of s).lanes (9 + place) lane at in let many : length (shape_of s).lanes ≡ length s.ports = simp length-map in omega arith)
+            | ByLane lane ↦ λ at. absurd (let within = slice_get_within (shape_of s).lanes (most_ports + place) lane at in let many : length (shape_of s).lanes ≡ length s.ports = simp length-map in omega arith)
           ]) is;
     }
 
@@ -106,7 +107,7 @@ asks_skip s from to next lines step silent asks =
     }
 
 -- nobody has a line beyond
-no_lane : (s : BusView) (line : ℕ) → length s.ports ≤ line → line < 9 → IsSilent s line
+no_lane : (s : BusView) (line : ℕ) → length s.ports ≤ line → line < most_ports → IsSilent s line
 no_lane s line beyond low =
     record {
       silent = λ by o is.
@@ -117,7 +118,7 @@ no_lane s line beyond low =
           ]) is;
     }
 
-no_master : (s : BusView) (line : ℕ) → length s.ports ≤ 9 → 9 + length s.masters ≤ line → IsSilent s line
+no_master : (s : BusView) (line : ℕ) → length s.ports ≤ most_ports → most_ports + length s.masters ≤ line → IsSilent s line
 no_master s line few beyond =
     record {
       silent = λ by o is.
@@ -129,7 +130,8 @@ no_master s line few beyond =
     }
 
 -- both together
-pub asked_both : (s : BusView) (lanes masters : ℕ) → length s.ports ≤ 9 → AsksUpTo s 0 (length s.ports) lanes → AsksUpTo s 9 (9 + length s.masters) masters → AreAsked s (bit_or lanes masters)
+pub asked_both : (s : BusView) (lanes masters : ℕ) → length s.ports ≤ most_ports → AsksUpTo s 0 (length s.ports) lanes
+    → AsksUpTo s most_ports (most_ports + length s.masters) masters → AreAsked s (bit_or lanes masters)
 asked_both s lanes masters few one two =
     let ports : length (shape_of s).lanes ≡ length s.ports = simp length-map in
     let agents : length (shape_of s).masters ≡ length s.masters = simp length-map in
@@ -148,12 +150,12 @@ asked_both s lanes masters few one two =
           let both : max (bit_at lanes line) (bit_at masters line) ≡ 0 = sym (bit_at_or lanes masters line) ∙ bit in
           let first : bit_at lanes line ≡ 0 = omega (arith, both) in
           let second : bit_at masters line ≡ 0 = omega (arith, both) in
-          elim (cases_lt line 9) as (λ _. IsSilent s line) [
+          elim (cases_lt line most_ports) as (λ _. IsSilent s line) [
             | inl is_lane ↦ elim (cases_lt line (length s.ports)) as (λ _. IsSilent s line) [
               | inl there ↦ one.silent line (omega arith) there first
               | inr beyond ↦ no_lane s line beyond is_lane
             ]
-            | inr is_master ↦ elim (cases_lt line (9 + length s.masters)) as (λ _. IsSilent s line) [
+            | inr is_master ↦ elim (cases_lt line (most_ports + length s.masters)) as (λ _. IsSilent s line) [
               | inl there ↦ two.silent line is_master there second
               | inr beyond ↦ no_master s line few beyond
             ]

@@ -6,6 +6,7 @@ use Rattle.std.specs.Int.{bit_not}
 use Rattle.std.proofs.lemmas.Bool.Decides.{nat_tests}
 use Rattle.std.proofs.lemmas.List.{length-map}
 use Rattle.std.proofs.lemmas.Nat.Bits.{bit_at-lt, bit_at_and, bit_at_clear_same, bit_at_clear_other}
+use Rattle.board_model.specs.Limits.{most_agents, most_ports, most_lines, most_offers, most_served}
 use Rattle.bus_core.specs.Bus.{BusView, Shape, shape_of}
 use Rattle.bus_segment.specs.turns.Works.{IsServed, most_at}
 
@@ -26,8 +27,8 @@ left_below lines (suc n) =
     let before = left_below lines n in
     elim (bit_at lines n == 1) as P [ true ↦ omega (arith, before) | false ↦ omega (arith, before) ]
 
-pub left_at_first : (lines : ℕ) → left lines 17 ≤ 152
-left_at_first lines = let le = left_below lines 17 in let full : all_left 17 ≡ 152 = refl in omega arith
+pub left_at_first : (lines : ℕ) → left lines most_lines ≤ most_served
+left_at_first lines = let le = left_below lines most_lines in let full : all_left most_lines ≡ most_served = refl in omega arith
 
 -- one line less
 left_same : (old new n : ℕ) → ((i : ℕ) → i < n → bit_at new i ≡ bit_at old i) → left new n ≡ left old n
@@ -65,7 +66,7 @@ left_less old new line (suc n) within same was is =
 abbrev pub cleared : ℕ → ℕ → ℕ
 cleared lines line = bit_and lines (bit_not w32 (1 * 2 ^ line % 2 ^ 32))
 
-pub cleared_other : (lines line n : ℕ) → line < 17 → n < 17 → n ≢ line → bit_at (cleared lines line) n ≡ bit_at lines n
+pub cleared_other : (lines line n : ℕ) → line < most_lines → n < most_lines → n ≢ line → bit_at (cleared lines line) n ≡ bit_at lines n
 cleared_other lines line n low below apart = bit_at_clear_other w32 lines line (omega (arith, low)) n (omega (arith, below)) apart
 
 pub cleared_asks : (lines line n : ℕ) → bit_at (cleared lines line) n ≡ 1 → bit_at lines n ≡ 1
@@ -73,16 +74,16 @@ cleared_asks lines line n is =
     let m = bit_at_and lines (bit_not w32 (1 * 2 ^ line % 2 ^ 32)) n in
     omega (arith, is, m, bit_at-lt lines n, bit_at-lt (bit_not w32 (1 * 2 ^ line % 2 ^ 32)) n)
 
-pub left_cleared : (lines line : ℕ) → line < 17 → bit_at lines line ≡ 1 → left (cleared lines line) 17 + most_at line ≡ left lines 17
+pub left_cleared : (lines line : ℕ) → line < most_lines → bit_at lines line ≡ 1 → left (cleared lines line) most_lines + most_at line ≡ left lines most_lines
 left_cleared lines line low asks =
-    left_less lines (cleared lines line) line 17 low (λ i below apart. cleared_other lines line i low below apart) asks (bit_at_clear_same w32 lines line (omega (arith, low)))
+    left_less lines (cleared lines line) line most_lines low (λ i below apart. cleared_other lines line i low below apart) asks (bit_at_clear_same w32 lines line (omega (arith, low)))
 
 pub most_some : (line : ℕ) → 1 ≤ most_at line
 most_some line =
-    let P : Bool → Type 0 = λ b. 1 ≤ cond b 16 1 in
-    elim (nat_lt line 9) as P [ true ↦ omega arith | false ↦ omega arith ]
+    let P : Bool → Type 0 = λ b. 1 ≤ cond b most_offers 1 in
+    elim (nat_lt line most_ports) as P [ true ↦ omega arith | false ↦ omega arith ]
 
-pub most_master : (line : ℕ) → 9 ≤ line → most_at line ≡ 1
+pub most_master : (line : ℕ) → most_ports ≤ line → most_at line ≡ 1
 most_master line high = grind (arith, nat_tests)
 
 -- Lines and who is on the bus.
@@ -98,9 +99,9 @@ ports_same a b shape = let same = ap (λ (s : Shape). length s.lanes) shape in o
 pub masters_same : (a b : BusView) → shape_of a ≡ shape_of b → length a.masters ≡ length b.masters
 masters_same a b shape = let same = ap (λ (s : Shape). length s.masters) shape in omega (arith, masters_many a, masters_many b, same)
 
-pub served_low : (s : BusView) (line : ℕ) → length s.ports ≤ 9 → length s.masters ≤ 8 → IsServed (shape_of s) line → line < 17
+pub served_low : (s : BusView) (line : ℕ) → length s.ports ≤ most_ports → length s.masters ≤ most_agents → IsServed (shape_of s) line → line < most_lines
 served_low s line ports masters served =
-    elim served as (λ _. line < 17) [
+    elim served as (λ _. line < most_lines) [
       | inl lane ↦ omega (arith, lanes_many s, lane, ports)
       | inr master ↦ omega (arith, masters_many s, master.1, masters)
     ]

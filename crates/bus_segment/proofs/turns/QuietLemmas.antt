@@ -5,6 +5,7 @@ use Rattle.std.proofs.lemmas.Bool.{and_parts, eqb-true}
 use Rattle.std.proofs.lemmas.Option.{slice_get_within}
 use Rattle.std.proofs.lemmas.Nat.Bits.{bit_at-zero}
 use Rattle.pci_command.specs.declared.op_id.OpId.{OpId}
+use Rattle.board_model.specs.Limits.{most_agents, most_ports, most_lines}
 use Rattle.board_model.specs.declared.bridge.Bridge.{Bridge}
 use Rattle.board_model.specs.declared.board.Board.{Board}
 use Rattle.board_model.specs.Ways.{end_of}
@@ -26,7 +27,7 @@ use Rattle.bus_segment.specs.Steps.{GetsRetry}
 use Rattle.bus_segment.proofs.Laws.{none_elsewhere}
 use Rattle.bus_segment.specs.turns.Works.{seen, AllRetried, GivesOnlyRetries, NoneInHand}
 
-module _ {End : Type 0} (had got : End → List Item) (board : Board) (old : BusView) (stamp : ℕ) (stopped : Bool) (few_ports : length (shape_of old).lanes ≤ 9) (few_masters : length (shape_of old).masters ≤ 8) (going : stopped ≡ false) where
+module _ {End : Type 0} (had got : End → List Item) (board : Board) (old : BusView) (stamp : ℕ) (stopped : Bool) (few_ports : length (shape_of old).lanes ≤ most_ports) (few_masters : length (shape_of old).masters ≤ most_agents) (going : stopped ≡ false) where
   -- nothing stands on an empty lane
   nothing_presented : (bus : ℕ) (o : OpId) (standing : List Carried) → standing ≡ [] → presents board bus o standing ≡ true → ⊥
   nothing_presented bus o [] is shown = cc
@@ -47,8 +48,8 @@ module _ {End : Type 0} (had got : End → List Item) (board : Board) (old : Bus
                   let there = and_parts (is_on old.bus (slice_get board.masters o.master)) (is_turn o (turn_of board (events_of p) o.master)) wanted in
                   let at = stands.is_of.each_master o.master there.0 in
                   let within = slice_get_within (shape_of old).masters at.0 o.master at.1 in
-                  let low : 9 + at.0 < 17 = omega (arith, within, few_masters) in
-                  let retry : GetsRetry board old Master o = (all.retried (9 + at.0) low (bit (9 + at.0))).retried Master o (at.0, refl, at.1) in
+                  let low : most_ports + at.0 < most_lines = omega (arith, within, few_masters) in
+                  let retry : GetsRetry board old Master o = (all.retried (most_ports + at.0) low (bit (most_ports + at.0))).retried Master o (at.0, refl, at.1) in
                   retry.retry keeping.tags w (events_of p) stands wanted
               | ByLane lane ↦ λ wanted.
                   let there = and_parts (end_of board lane == old.bus) (presents board old.bus o (w lane).standing) wanted in
@@ -61,7 +62,7 @@ module _ {End : Type 0} (had got : End → List Item) (board : Board) (old : Bus
                     | Some bridge ↦ λ is_bridge.
                         let at = stands.is_of.each_lane lane bridge is_bridge ends in
                         let within = slice_get_within (shape_of old).lanes at.0 lane at.1 in
-                        let low : at.0 < 17 = omega (arith, within, few_ports) in
+                        let low : at.0 < most_lines = omega (arith, within, few_ports) in
                         let retry : GetsRetry board old (ByLane lane) o = (all.retried at.0 low (bit at.0)).retried (ByLane lane) o at.1 in
                         retry.retry keeping.tags w (events_of p) stands wanted
                   ]) refl

@@ -8,6 +8,7 @@ use Rattle.std.proofs.lemmas.List.{take_more}
 use Rattle.std.proofs.lemmas.List.Folds.{list_any-append, find_at}
 use Rattle.list_facts.proofs.FindLemmas.{find_passes, find-none_any}
 use Rattle.pci_command.specs.declared.op_id.OpId.{OpId}
+use Rattle.board_model.specs.Limits.{most_ports, most_lines}
 use Rattle.board_model.specs.declared.board.Board.{Board}
 use Rattle.history_model.specs.declared.event.By.{By}
 use Rattle.history_model.specs.declared.event.By.TheVariants.{Master, Lane as ByLane}
@@ -146,7 +147,8 @@ module _ {End : Type 0} (board : Board) where
       }
 
   -- Request lines.
-  pub port_line : (old new : BusView) (ends after : List End) (line : ℕ) → line < 9 → Retries board old new ends after (IsOfPort (shape_of old) line) → Retries board old new ends after (HasLine (shape_of old) line)
+  pub port_line : (old new : BusView) (ends after : List End) (line : ℕ) → line < most_ports → Retries board old new ends after (IsOfPort (shape_of old) line)
+      → Retries board old new ends after (HasLine (shape_of old) line)
   port_line old new ends after line low one =
       let has : (by : By) (o : OpId) → HasLine (shape_of old) line by o → GetsRetry board old by o = λ by o is.
       let P : By → Type 0 = λ b. HasLine (shape_of old) line b o → GetsRetry board old b o in
@@ -156,7 +158,8 @@ module _ {End : Type 0} (board : Board) where
       ]) is in
       record { same_ends = one.same_ends; same_bus = one.same_bus; retried = has }
 
-  pub master_line : (old new : BusView) (ends after : List End) (line place : ℕ) → line ≡ 9 + place → length (shape_of old).lanes ≤ 9 → Retries board old new ends after (IsOfMaster (shape_of old) place)
+  pub master_line : (old new : BusView) (ends after : List End) (line place : ℕ) → line ≡ most_ports + place → length (shape_of old).lanes ≤ most_ports
+      → Retries board old new ends after (IsOfMaster (shape_of old) place)
       → Retries board old new ends after (HasLine (shape_of old) line)
   master_line old new ends after line place high few one =
       let has : (by : By) (o : OpId) → HasLine (shape_of old) line by o → GetsRetry board old by o = λ by o is.
@@ -187,7 +190,8 @@ module _ {End : Type 0} (board : Board) where
             };
       }
 
-  pub all_further : (old mid new : BusView) (ends between after : List End) (lines left line : ℕ) → shape_of mid ≡ shape_of old → ((n : ℕ) → n < 17 → n ≢ line → bit_at left n ≡ bit_at lines n) → AllRetried board lines old mid ends between
+  pub all_further : (old mid new : BusView) (ends between after : List End) (lines left line : ℕ) → shape_of mid ≡ shape_of old
+      → ((n : ℕ) → n < most_lines → n ≢ line → bit_at left n ≡ bit_at lines n) → AllRetried board lines old mid ends between
       → Retries board mid new between after (HasLine (shape_of mid) line) → AllRetried board left old new ends after
   all_further old mid new ends between after lines left line shape same one two =
       record {

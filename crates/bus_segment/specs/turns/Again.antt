@@ -1,6 +1,7 @@
 -- A turn of a worker, after another one.
 use Rattle.std.specs.Prelude.{◌≡◌, ℕ, ◌+◌, ◌-◌, ◌≤◌, false, List, length, vec_len}
 use Rattle.std.specs.Vec.{vec_capacity}
+use Rattle.board_model.specs.Limits.{most_agents, room_of_a_turn, most_ports, most_of_a_turn}
 use Rattle.board_model.specs.declared.board.Board.{Board}
 use Rattle.board_model.specs.Valid.{IsValid}
 use Rattle.lane_items.specs.declared.item.Item.{Item}
@@ -16,10 +17,10 @@ pub record MayTurn {End : Type 0} (board : Board) (w : Worker End) : Type 0 wher
   pub valid : IsValid board
   pub going : w.segment.stopped ≡ false
   pub ends : length w.segment.ends.items ≡ length w.segment.bus.ports
-  pub few_ports : length w.segment.bus.ports ≤ 9
-  pub few_masters : length w.segment.bus.masters ≤ 8
+  pub few_ports : length w.segment.bus.ports ≤ most_ports
+  pub few_masters : length w.segment.bus.masters ≤ most_agents
   pub counts : ArrivedUpTo (length w.segment.events.items) w.segment.bus
-  pub spare : 512 ≤ vec_capacity w.segment.events - vec_len w.segment.events
+  pub spare : room_of_a_turn ≤ vec_capacity w.segment.events - vec_len w.segment.events
 
 -- what is seen of its segment
 abbrev pub segment_of : {End : Type 0} → Worker End → SegmentView
@@ -32,6 +33,6 @@ pub record DoesTurn {End : Type 0} (had sent got : End → List Item) (kept : En
   pub ends : length new.segment.ends.items ≡ length old.segment.ends.items
   pub counts : new.segment.stopped ≡ false → ArrivedUpTo (length new.segment.events.items) new.segment.bus
   pub many : length new.segment.events.items ≡ length old.segment.events.items + count
-  pub few : count ≤ 440
+  pub few : count ≤ most_of_a_turn
   pub quiet : IsQuietAtZero had got board (segment_of old) (segment_of new) new.segment.ends.items count
   pub stamps : StampsRise sent got old.segment.stamp new.segment.stamp old.segment.ends.items new.segment.ends.items

@@ -2,6 +2,7 @@
 use Rattle.std.specs.Prelude.{◌≡◌, ℕ, ◌+◌, ◌<◌, ◌≤◌, Bool, false, nat_lt, List, [], length, Some, slice_get, ◌⊎◌, if◌then◌else◌}
 use Rattle.std.specs.Int.{bit_at}
 use Rattle.pci_command.specs.declared.op_id.OpId.{OpId}
+use Rattle.board_model.specs.Limits.{most_ports, most_lines, most_offers}
 use Rattle.board_model.specs.declared.bridge.Lane.{Lane as BridgeLane}
 use Rattle.board_model.specs.declared.board.Board.{Board}
 use Rattle.history_model.specs.declared.event.By.{By}
@@ -32,18 +33,18 @@ pub record Works {End : Type 0} (had sent got : End → List Item) (kept : End �
 
 -- Request lines.
 
--- the initiator has this request line: lines 0 to 8 are those of bridges, from 9 on those of masters
+-- the initiator has this request line: the first lines are those of bridges, and then those of masters
 abbrev pub HasLine : Shape → ℕ → By → OpId → Type 0
-HasLine shape line Master o = (place : ℕ) × (line ≡ 9 + place) × (slice_get shape.masters place ≡ Some o.master)
+HasLine shape line Master o = (place : ℕ) × (line ≡ most_ports + place) × (slice_get shape.masters place ≡ Some o.master)
 HasLine shape line (ByLane lane) o = slice_get shape.lanes line ≡ Some lane
 
 -- the line is that of a bridge or a master on the bus
 abbrev pub IsServed : Shape → ℕ → Type 0
-IsServed shape line = (line < length shape.lanes) ⊎ ((9 ≤ line) × (line < 9 + length shape.masters))
+IsServed shape line = (line < length shape.lanes) ⊎ ((most_ports ≤ line) × (line < most_ports + length shape.masters))
 
--- how many events an initiator makes in a turn, at most: a lane presents at most 16 things, a master one
+-- how many events an initiator makes in a turn, at most: a lane presents no more than it offers, a master one thing
 abbrev pub most_at : ℕ → ℕ
-most_at line = if nat_lt line 9 then 16 else 1
+most_at line = if nat_lt line most_ports then most_offers else 1
 
 -- the lane of the port at this place, whatever it presents
 pub record IsOfPort (shape : Shape) (place : ℕ) (by : By) (o : OpId) : Type 0 where
@@ -71,17 +72,17 @@ pub record AsksUpTo (s : BusView) (from to : ℕ) (lines : ℕ) : Type 0 where
 -- the lines of all that present something ask; each that asks is of a bridge or a master on the bus
 pub record AreAsked (s : BusView) (lines : ℕ) : Type 0 where
   pub served : (line : ℕ) → bit_at lines line ≡ 1 → IsServed (shape_of s) line
-  pub silent : (line : ℕ) → line < 17 → bit_at lines line ≡ 0 → IsSilent s line
+  pub silent : (line : ℕ) → line < most_lines → bit_at lines line ≡ 0 → IsSilent s line
 
 -- nothing was done, and the bus is as it was: whoever has one of the lines that do not ask any more got a Retry
 pub record AllRetried {End : Type 0} (board : Board) (lines : ℕ) (old new : BusView) (ends after : List End) : Type 0 where
   pub same_ends : after ≡ ends
   pub same_bus : new ≡ old
-  pub retried : (line : ℕ) → line < 17 → bit_at lines line ≡ 0 → IsRetried board old line
+  pub retried : (line : ℕ) → line < most_lines → bit_at lines line ≡ 0 → IsRetried board old line
 
 -- whoever presents something on the bus gets a Retry
 pub record GivesOnlyRetries (board : Board) (s : BusView) : Type 0 where
-  pub retried : (line : ℕ) → line < 17 → IsRetried board s line
+  pub retried : (line : ℕ) → line < most_lines → IsRetried board s line
 
 -- nothing is in hand at any of these ends
 pub record NoneInHand {End : Type 0} (had got : End → List Item) (ends : List End) : Type 0 where

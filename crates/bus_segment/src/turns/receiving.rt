@@ -3,13 +3,14 @@ ghost use Rattle.std.specs.Vec.{vec_capacity};
 ghost use Rattle.board_model.specs.Valid.{IsValid};
 ghost use Rattle.bus_segment.specs.Steps.{ArrivedUpTo, NothingCame};
 ghost use Rattle.bus_segment.specs.turns.Works.{seen, Works, NoneInHand};
+ghost use Rattle.board_model.specs.Limits.{most_waiting};
 
 use crate::Segment;
-use board_model::Board;
+use board_model::{Board, MOST_WAITING};
 use lane_items::LaneEnd;
 
 /// How many items are received from one end in a turn.
-const ITEMS: u32 = 32;
+const ITEMS: u32 = MOST_WAITING as u32;
 
 /// What came over each bridge of the bus is received, as long as the segment does not stop.
 pub(crate) fn receive_all<L: LaneEnd + Drop>(segment: &mut Segment<L>, board: &Board)
@@ -17,10 +18,10 @@ pub(crate) fn receive_all<L: LaneEnd + Drop>(segment: &mut Segment<L>, board: &B
     requires going { segment.old.stopped ≡ false }
     requires ends { length segment.old.ends.items ≡ length segment.old.bus.ports }
     requires counts { ArrivedUpTo (length segment.old.events.items) segment.old.bus }
-    requires spare { vec_len segment.old.events + 32 * length segment.old.bus.ports ≤
+    requires spare { vec_len segment.old.events + most_waiting * length segment.old.bus.ports ≤
         vec_capacity segment.old.events }
     ensures works { Works L.had L.sent L.got L.kept L.paired board.now
-        (32 * length segment.old.bus.ports)
+        (most_waiting * length segment.old.bus.ports)
         (seen segment.old.bus segment.old.stamp segment.old.stopped)
         (seen segment.new.bus segment.new.stamp segment.new.stopped)
         segment.old.ends.items segment.new.ends.items segment.old.events.items
@@ -39,15 +40,15 @@ pub(crate) fn receive_all<L: LaneEnd + Drop>(segment: &mut Segment<L>, board: &B
     }
 }
 
-/// Up to 32 items are received from the end of the port at this place.
+/// As many items as may wait are received from the end of the port at this place.
 fn receive_from<L: LaneEnd + Drop>(segment: &mut Segment<L>, board: &Board, place: usize)
     requires valid { IsValid board.now }
     requires place { place < length segment.old.bus.ports }
     requires going { segment.old.stopped ≡ false }
     requires ends { length segment.old.ends.items ≡ length segment.old.bus.ports }
     requires counts { ArrivedUpTo (length segment.old.events.items) segment.old.bus }
-    requires spare { vec_len segment.old.events + 32 ≤ vec_capacity segment.old.events }
-    ensures works { Works L.had L.sent L.got L.kept L.paired board.now 32
+    requires spare { vec_len segment.old.events + most_waiting ≤ vec_capacity segment.old.events }
+    ensures works { Works L.had L.sent L.got L.kept L.paired board.now most_waiting
         (seen segment.old.bus segment.old.stamp segment.old.stopped)
         (seen segment.new.bus segment.new.stamp segment.new.stopped)
         segment.old.ends.items segment.new.ends.items segment.old.events.items

@@ -10,9 +10,11 @@ ghost use Rattle.bus_core.specs.Bus.{shape_of};
 ghost use Rattle.bus_segment.specs.Steps.{IsOfLane, Retries};
 ghost use Rattle.bus_segment.specs.turns.Works.{seen, Works, HasLine, IsServed};
 ghost use Rattle.bus_segment.specs.turns.Works.{IsOfPort, AllRetried, most_at};
+ghost use Rattle.board_model.specs.Limits.{most_agents, most_ports, most_offers, most_served};
 
 use crate::Segment;
 use crate::turns::lines::lines;
+use board_model::MOST_PORTS;
 use board_tree::Tree;
 use bus_agents::Arbiter;
 use bus_face::Offer;
@@ -20,7 +22,7 @@ use lane_items::LaneEnd;
 use pci_command::OpId;
 
 /// The first request line of a master; those below are of bridges.
-const MASTERS: u8 = 9;
+const MASTERS: u8 = MOST_PORTS as u8;
 
 /// Each initiator that presents something is served once, in the order of the grants, as long as
 /// the segment does not stop.
@@ -32,10 +34,10 @@ pub(crate) fn serve_all<L: LaneEnd + Drop>(
     requires formed { IsTrue (is_well_formed board.now) }
     requires going { segment.old.stopped ≡ false }
     requires ends { length segment.old.ends.items ≡ length segment.old.bus.ports }
-    requires ports { length segment.old.bus.ports ≤ 9 }
-    requires masters { length segment.old.bus.masters ≤ 8 }
-    requires spare { vec_len segment.old.events + 152 ≤ vec_capacity segment.old.events }
-    ensures works { Works L.had L.sent L.got L.kept L.paired board.now 152
+    requires ports { length segment.old.bus.ports ≤ most_ports }
+    requires masters { length segment.old.bus.masters ≤ most_agents }
+    requires spare { vec_len segment.old.events + most_served ≤ vec_capacity segment.old.events }
+    ensures works { Works L.had L.sent L.got L.kept L.paired board.now most_served
         (seen segment.old.bus segment.old.stamp segment.old.stopped)
         (seen segment.new.bus segment.new.stamp segment.new.stopped)
         segment.old.ends.items segment.new.ends.items segment.old.events.items
@@ -60,8 +62,8 @@ fn serve<L: LaneEnd + Drop>(segment: &mut Segment<L>, board: &Tree, line: u8)
     requires formed { IsTrue (is_well_formed board.now) }
     requires going { segment.old.stopped ≡ false }
     requires ends { length segment.old.ends.items ≡ length segment.old.bus.ports }
-    requires ports { length segment.old.bus.ports ≤ 9 }
-    requires masters { length segment.old.bus.masters ≤ 8 }
+    requires ports { length segment.old.bus.ports ≤ most_ports }
+    requires masters { length segment.old.bus.masters ≤ most_agents }
     requires line { IsServed (shape_of segment.old.bus) line }
     requires spare { vec_len segment.old.events + most_at line ≤ vec_capacity segment.old.events }
     ensures works { Works L.had L.sent L.got L.kept L.paired board.now (most_at line)
@@ -88,8 +90,8 @@ fn serve_lane<L: LaneEnd + Drop>(segment: &mut Segment<L>, board: &Tree, place: 
     requires going { segment.old.stopped ≡ false }
     requires ends { length segment.old.ends.items ≡ length segment.old.bus.ports }
     requires place { place < length segment.old.bus.ports }
-    requires spare { vec_len segment.old.events + 16 ≤ vec_capacity segment.old.events }
-    ensures works { Works L.had L.sent L.got L.kept L.paired board.now 16
+    requires spare { vec_len segment.old.events + most_offers ≤ vec_capacity segment.old.events }
+    ensures works { Works L.had L.sent L.got L.kept L.paired board.now most_offers
         (seen segment.old.bus segment.old.stamp segment.old.stopped)
         (seen segment.new.bus segment.new.stamp segment.new.stopped)
         segment.old.ends.items segment.new.ends.items segment.old.events.items

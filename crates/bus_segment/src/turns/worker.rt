@@ -8,6 +8,7 @@ ghost use Rattle.bus_segment.specs.Steps.{StampsRise, ArrivedUpTo};
 ghost use Rattle.bus_segment.specs.Turn.{Does, IsQuietAtZero};
 ghost use Rattle.bus_segment.specs.turns.Works.{GivesOnlyRetries};
 ghost use Rattle.bus_segment.specs.turns.Again.{MayTurn, DoesTurn};
+ghost use Rattle.board_model.specs.Limits.{most_agents, room_of_a_turn, most_ports, most_of_a_turn};
 
 use crate::Segment;
 use crate::turns::receiving::receive_all;
@@ -106,17 +107,17 @@ impl<L: LaneEnd + Drop> Worker<L> {
         self.segment.reserve()
     }
 
-    /// Receives what came over the bridges of the bus, up to 32 items from each, and then serves
+    /// Receives what came over the bridges of the bus, up to as many items from each as may wait, and then serves
     /// once each initiator that presents something, in the order in which the arbiter grants the
     /// bus; how many events that made. The board is that of the segment.
     pub fn turn(&mut self, board: &Tree) -> u32
         requires valid { IsValid board.now }
         requires going { self.old.segment.stopped ≡ false }
         requires ends { length self.old.segment.ends.items ≡ length self.old.segment.bus.ports }
-        requires few { (length self.old.segment.bus.ports ≤ 9) ×
-            (length self.old.segment.bus.masters ≤ 8) }
+        requires few { (length self.old.segment.bus.ports ≤ most_ports) ×
+            (length self.old.segment.bus.masters ≤ most_agents) }
         requires counts { ArrivedUpTo (length self.old.segment.events.items) self.old.segment.bus }
-        requires spare { 512 ≤
+        requires spare { room_of_a_turn ≤
             vec_capacity self.old.segment.events - vec_len self.old.segment.events }
         ensures does { Does L.had L.sent L.got L.kept L.paired board.now
             (record {
@@ -135,7 +136,7 @@ impl<L: LaneEnd + Drop> Worker<L> {
             ArrivedUpTo (length self.new.segment.events.items) self.new.segment.bus }
         ensures many { length self.new.segment.events.items ≡
             length self.old.segment.events.items + result }
-        ensures few { result ≤ 440 }
+        ensures few { result ≤ most_of_a_turn }
         ensures quiet { IsQuietAtZero L.had L.got board.now
             (record {
               bus = self.old.segment.bus;

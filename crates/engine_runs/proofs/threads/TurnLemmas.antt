@@ -1,6 +1,7 @@
 -- Turns of one worker, one after the other.
 use Rattle.std.proofs.Common.{◌≡◌, ℕ, ◌+◌, ◌-◌, ◌<◌, ◌≤◌, Bool, true, false, List, length, vec_len, refl, sym, ◌∙◌, arith}
 use Rattle.std.specs.Vec.{vec_capacity}
+use Rattle.board_model.specs.Limits.{room_of_a_turn}
 use Rattle.board_model.specs.declared.board.Board.{Board}
 use Rattle.history_model.specs.declared.event.Stamped.{Stamped}
 use Rattle.lane_items.specs.declared.item.Item.{Item}
@@ -53,7 +54,7 @@ module _ {End : Type 0} (had sent got : End → List Item) (kept : End → ℕ) 
 
   -- after a turn there may be another
   pub may_turn : (old new : Worker End) → HasRoom board old → shape_of new.segment.bus ≡ shape_of old.segment.bus → length new.segment.ends.items ≡ length old.segment.ends.items
-      → (new.segment.stopped ≡ false → ArrivedUpTo (length new.segment.events.items) new.segment.bus) → new.segment.stopped ≡ false → 512 ≤ vec_capacity new.segment.events - vec_len new.segment.events → HasRoom board new
+      → (new.segment.stopped ≡ false → ArrivedUpTo (length new.segment.events.items) new.segment.bus) → new.segment.stopped ≡ false → room_of_a_turn ≤ vec_capacity new.segment.events - vec_len new.segment.events → HasRoom board new
   may_turn old new before shape many counts on spare =
       let ports = ports_same (seen new) (seen old) shape in
       let masters = masters_same (seen new) (seen old) shape in

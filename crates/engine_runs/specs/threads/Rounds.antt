@@ -1,6 +1,7 @@
 -- Phases in which each worker does turns of its own, one after another.
 use Rattle.std.specs.Prelude.{◌≡◌, ℕ, ◌+◌, ◌-◌, ◌<◌, ◌≤◌, List, length, max, Some, slice_get, slice_index_or, vec_len}
 use Rattle.std.specs.Vec.{vec_capacity}
+use Rattle.board_model.specs.Limits.{room_of_a_turn}
 use Rattle.board_model.specs.declared.board.Board.{Board}
 use Rattle.lane_items.specs.declared.item.Item.{Item}
 use Rattle.bus_segment.specs.Stands.{WorkerView}
@@ -34,7 +35,7 @@ pub record HasBegun {End : Type 0} (from : ℕ) (old new : Worker End) : Type 0 
   pub stopped : new.segment.stopped ≡ old.segment.stopped
   pub ends : new.segment.ends.items ≡ old.segment.ends.items
   pub events : new.segment.events.items ≡ old.segment.events.items
-  pub room : 512 ≤ vec_capacity new.segment.events - vec_len new.segment.events
+  pub room : room_of_a_turn ≤ vec_capacity new.segment.events - vec_len new.segment.events
 
 -- so each did
 pub record EachBegun {End : Type 0} (from : ℕ) (old new : List (Worker End)) : Type 0 where

@@ -1,6 +1,7 @@
 -- The turns of a phase, each bus by itself.
 use Rattle.std.specs.Prelude.{◌≡◌, ℕ, ◌-◌, ◌<◌, ◌≤◌, Bool, true, false, List, length, slice_index_or, vec_len}
 use Rattle.std.specs.Vec.{vec_capacity}
+use Rattle.board_model.specs.Limits.{room_of_a_turn}
 use Rattle.board_model.specs.declared.board.Board.{Board}
 use Rattle.board_model.specs.Valid.{IsValid}
 use Rattle.lane_items.specs.declared.item.Item.{Item}
@@ -14,7 +15,7 @@ use Rattle.engine_runs.specs.Loop.{seen, IsReady}
 pub record HasRoom {End : Type 0} (board : Board) (w : Worker End) : Type 0 where
   pub valid : IsValid board
   pub ready : IsReady (seen w)
-  pub room : 512 ≤ vec_capacity w.segment.events - vec_len w.segment.events
+  pub room : room_of_a_turn ≤ vec_capacity w.segment.events - vec_len w.segment.events
 
 -- what a worker did in one turn or more; if it goes on, it made an event and may do another turn
 pub record HasTurned {End : Type 0} (had sent got : End → List Item) (kept : End → ℕ) (paired : End → End → Type 0) (board : Board) (old : WorkerView End) (new : Worker End) (goes_on : Bool) : Type 0 where

@@ -5,6 +5,7 @@ ghost use Rattle.engine_runs.specs.threads.Tries.{are_unmet_tries};
 
 use crate::threads::Gate;
 use crate::threads::tries::are_unmet_tries;
+use board_model::ROOM_OF_A_TURN;
 use board_tree::Tree;
 use bus_segment::{Worker, steps_go_on};
 use history_model::Stamped;
@@ -59,7 +60,7 @@ fn turn<L: LaneEnd + Drop, G: Gate>(gate: &G, board: &Tree, worker: &mut Worker<
     gate.did(worker.bus(), events);
     events > 0
         && !worker.stopped()
-        && worker.spare() >= 512
+        && worker.spare() >= ROOM_OF_A_TURN
         && !are_unmet_tries(board.board(), newer(worker, before))
 }
 

@@ -14,7 +14,7 @@ ghost use Rattle.import_board.specs.Machine.{is_bridge_kept};
 use crate::holds::buses::{has_no_number, is_bridge_of, place_of};
 use crate::holds::spans::{is_reached, passes_some};
 use board_headers::Windows;
-use board_model::{Board, Bridge, Window, bridge_to, is_bus};
+use board_model::{Board, Bridge, MOST_BRIDGES, MOST_CHILDREN, Window, bridge_to, is_bus};
 use import_bridges::{Root, decodes, windows_of};
 use import_text::Function;
 use pci_command::Space;
@@ -178,7 +178,7 @@ fn is_full(board: &Board, bus: u8) -> bool
     ensures { result ≡ is_full board.now bus }
 {
     let bridges = board.bridges.as_slice();
-    children_on(board, bus) >= 8 || bridges.len() >= 31
+    children_on(board, bus) >= MOST_CHILDREN || bridges.len() >= MOST_BRIDGES
 }
 
 fn children_on(board: &Board, bus: u8) -> usize

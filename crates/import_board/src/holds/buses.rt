@@ -109,5 +109,5 @@ pub(crate) fn has_no_number(
     ensures { result ≡ has_no_number root functions.now board.now function.now }
 {
     is_given(board, place_of(root, function), function.slot.device)
-        && all_used(root, functions, board, function, 32)
+        && all_used(root, functions, board, function, 32) // not a limit
 }

@@ -3,7 +3,7 @@ ghost use Rattle.std.specs.Prelude.{◌≡◌};
 ghost use Rattle.std.specs.List.{list_all};
 ghost use Rattle.import_board.specs.Machine.{is_plain_bridge, is_plain_target, has_nothing_else};
 
-use board_model::{Board, Bridge, Target};
+use board_model::{Board, Bridge, MOST_DWORDS, Target};
 
 /// Whether the board has no more than bridges and targets as where nothing else is written.
 pub(crate) fn has_nothing_else(board: &Board) -> bool
@@ -34,7 +34,7 @@ fn is_plain(target: &Target) -> bool
     ensures { result ≡ is_plain_target target.now }
 {
     target.stalls == 0
-        && target.burst == 8
+        && usize::from(target.burst) == MOST_DWORDS
         && target.aborts.as_slice().is_empty()
         && target.openings.as_slice().is_empty()
 }

@@ -4,6 +4,7 @@ use Rattle.std.specs.List.{AllByRecursion}
 use Rattle.list_facts.specs.Lists.{total}
 use Rattle.list_facts.proofs.AnyLemmas.{total_same}
 use Rattle.pci_command.specs.declared.op_id.OpId.{OpId}
+use Rattle.board_model.specs.Limits.{most_posted, most_delayed}
 use Rattle.board_model.specs.declared.agents.Master.{Master as MasterAgent}
 use Rattle.board_model.specs.declared.agents.Target.{Target as TargetAgent}
 use Rattle.board_model.specs.declared.bridge.Bridge.{Bridge}
@@ -139,5 +140,5 @@ module _ (board : Board) (h : List Event) (k : KeptState) (stands : StandsFor bo
         short = running.short;
         discards = running.discards;
         drops = running.drops;
-        lanes = λ lane. subst (Within 8 8) (sym (look.lane_now board h k lane stands)) (running.lanes lane);
+        lanes = λ lane. subst (Within most_posted most_delayed) (sym (look.lane_now board h k lane stands)) (running.lanes lane);
       }

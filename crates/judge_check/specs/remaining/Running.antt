@@ -1,5 +1,6 @@
 -- What is kept of a run of a valid board, and what bounds its numbers.
 use Rattle.std.specs.Prelude.{◌≤◌, length, IsTrue}
+use Rattle.board_model.specs.Limits.{most_posted, most_delayed, most_plans}
 use Rattle.board_model.specs.declared.bridge.Lane.{Lane as BridgeLane}
 use Rattle.board_model.specs.declared.board.Board.{Board}
 use Rattle.board_model.specs.WellFormed.{is_well_formed}
@@ -14,7 +15,7 @@ pub record IsRunning (board : Board) (k : KeptState) : Type 0 where
   pub decodable : IsDecodable board
   -- a run has few events, and few lines are discards or drops
   pub short : bound_of board ≤ 500000
-  pub discards : length board.discards ≤ 1024
-  pub drops : length board.drops ≤ 1024
+  pub discards : length board.discards ≤ most_plans
+  pub drops : length board.drops ≤ most_plans
   -- little is on a lane
-  pub lanes : (lane : BridgeLane) → Within 8 8 (lane_in board k.lanes lane)
+  pub lanes : (lane : BridgeLane) → Within most_posted most_delayed (lane_in board k.lanes lane)

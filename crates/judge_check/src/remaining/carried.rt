@@ -5,6 +5,7 @@ ghost use Rattle.judge_state.specs.State.{lane_in};
 ghost use Rattle.judge_check.specs.remaining.Now.{posted_now, post_now, flying_now};
 ghost use Rattle.judge_check.specs.remaining.Now.{standing_now, lane_now, bridge_now};
 ghost use Rattle.judge_check.specs.remaining.Running.{IsRunning};
+ghost use Rattle.board_model.specs.Limits.{most_bridges, most_in_flight, most_standing};
 
 use board_model::{Board, Lane, Op, end_of, op_of};
 use history_model::Carried;
@@ -16,7 +17,7 @@ use pci_command::OpId;
 pub(crate) fn bridges_left(kept: &Kept, board: &Board) -> u64
     requires { IsRunning board.now kept.now }
     ensures value { result ≡ total (bridge_now board.now kept.now) board.now.bridges }
-    ensures fits { result ≤ 20000000 * 31 }
+    ensures fits { result ≤ 20000000 * most_bridges }
 {
     let mut left = 0;
     for bridge in board.bridges.as_slice() {
@@ -60,9 +61,9 @@ fn tables_left(kept: &Kept, board: &Board, lane: Lane, tables: &LaneTables) -> u
 
 fn flight_left(kept: &Kept, board: &Board, lane: Lane, items: &[Carried]) -> u64
     requires running { IsRunning board.now kept.now }
-    requires few { length items.now ≤ 32 }
+    requires few { length items.now ≤ most_in_flight }
     ensures value { result ≡ total (flying_now board.now kept.now lane) items.now }
-    ensures fits { result ≤ 70000 * 32 }
+    ensures fits { result ≤ 70000 * most_in_flight }
 {
     let mut left = 0;
     for item in items {
@@ -87,9 +88,9 @@ fn flying_left(kept: &Kept, board: &Board, lane: Lane, item: Carried) -> u32
 
 fn stand_left(kept: &Kept, board: &Board, lane: Lane, items: &[Carried]) -> u64
     requires running { IsRunning board.now kept.now }
-    requires few { length items.now ≤ 24 }
+    requires few { length items.now ≤ most_standing }
     ensures value { result ≡ total (standing_now board.now kept.now lane) items.now }
-    ensures fits { result ≤ 70000 * 24 }
+    ensures fits { result ≤ 70000 * most_standing }
 {
     let mut left = 0;
     for item in items {

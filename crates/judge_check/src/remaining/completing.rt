@@ -10,14 +10,14 @@ use judge_lanes::LaneTables;
 use judge_state::Kept;
 
 /// Whether the program of every master ended.
-#[tactic(auto, using(board_model::proofs::claims::FewLemmas::few_masters_before, board_model::proofs::claims::FewLemmas::master_more))]
+#[tactic(auto, using(board_model::proofs::FewLemmas::few_masters_before, board_model::proofs::FewLemmas::master_more))]
 pub(crate) fn have_ended(kept: &Kept, board: &Board) -> bool
     requires { IsTrue (is_well_formed board.now) }
     ensures { IsTrue result ↔
         ((master : ℕ) → master < length board.now.masters → turn_in kept.now.turns master ≡ None) }
 {
     for (index, master) in board.masters.as_slice().iter().enumerate() {
-        // It is one of 256 buses, with eight masters at most on each.
+        // It is one of 256 buses, with few masters on each.
         let _bus = master.bus;
         if kept.turn(index as u16).is_some() {
             return false;

@@ -5,6 +5,7 @@ ghost use Rattle.history_model.specs.Left.{discard_left, drop_left};
 ghost use Rattle.judge_state.specs.State.{lane_in};
 ghost use Rattle.judge_check.specs.remaining.Now.{world_now, stalls_now};
 ghost use Rattle.judge_check.specs.remaining.Running.{IsRunning};
+ghost use Rattle.board_model.specs.Limits.{most_plans};
 
 use board_model::{Board, Planned};
 use board_tree::longest_way;
@@ -28,7 +29,7 @@ pub(crate) fn discards_left(kept: &Kept, board: &Board) -> u64
     requires { IsRunning board.now kept.now }
     ensures value { result ≡
         total (discard_left board.now (world_now board.now kept.now)) board.now.discards }
-    ensures fits { result ≤ 1020 * 1024 }
+    ensures fits { result ≤ 1020 * most_plans }
 {
     let longest = longest_way(board, board.masters.as_slice());
     let mut left = 0;
@@ -68,7 +69,7 @@ fn dones_on(kept: &Kept, board: &Board, planned: Planned) -> u64
 pub(crate) fn drops_left(kept: &Kept, board: &Board) -> u64
     requires { IsRunning board.now kept.now }
     ensures value { result ≡ total (drop_left (world_now board.now kept.now)) board.now.drops }
-    ensures fits { result ≤ 3 * 1024 }
+    ensures fits { result ≤ 3 * most_plans }
 {
     let mut left = 0;
     for planned in board.drops.as_slice() {

@@ -1,6 +1,7 @@
 -- Nothing is on the lanes of no bridge, and the depths of a bridge bound what is on its lanes, under either rule.
 use Rattle.std.proofs.Common.{◌≡◌, ℕ, ◌≤◌, ◌<◌, List, Option, Some, None, refl, sym, ap, subst, ◌∙◌, arith, ◌==◌}
 use Rattle.list_facts.proofs.EachLemmas.{Each-weaker, Each-find}
+use Rattle.board_model.specs.Limits.{most_posted, most_delayed}
 use Rattle.board_model.specs.declared.bridge.Bridge.{Bridge}
 use Rattle.board_model.specs.declared.bridge.Lane.{Lane as BridgeLane}
 use Rattle.board_model.specs.declared.board.Board.{Board}
@@ -13,7 +14,7 @@ use Rattle.history_model.specs.Answers.{bridge_to}
 use Rattle.history_model.specs.Runs.{RunBy}
 use Rattle.history_model.proofs.facts.BridgeLemmas.{flip}
 use Rattle.history_model.proofs.facts.KeptLemmas.{Pair, KeptBy, runs_keep_by}
-use Rattle.law_lanes.specs.Depths.{Within, DepthsToEight}
+use Rattle.law_lanes.specs.Depths.{Within, DepthsInLimits}
 use Rattle.law_lanes.proofs.DepthsLemmas.{Within-run_by, within_more, within_empty}
 
 nothing : Both
@@ -49,13 +50,13 @@ unfolding nothing
 Quiet-run_by rule board h lane none run =
     ap (λ (x : Both). x.here) (runs_keep_by rule board (IsQuiet board) (IsQuiet-kept rule board) h run lane none)
 
-pub Within-eight_by : (rule : Rule) (board : Board) (h : List Event) (lane : BridgeLane) → DepthsToEight board → RunBy rule board h → Within 8 8 (world_by rule board h lane)
-Within-eight_by rule board h lane eight run =
-    let D : Bridge → Type 0 = λ bridge. (bridge.posted ≤ 8) × (bridge.delayed ≤ 8) in
-    let P : Option Bridge → Type 0 = λ found. bridge_to board lane.bus ≡ found → Within 8 8 (world_by rule board h lane) in
+pub Within-limits_by : (rule : Rule) (board : Board) (h : List Event) (lane : BridgeLane) → DepthsInLimits board → RunBy rule board h → Within most_posted most_delayed (world_by rule board h lane)
+Within-limits_by rule board h lane eight run =
+    let D : Bridge → Type 0 = λ bridge. (bridge.posted ≤ most_posted) × (bridge.delayed ≤ most_delayed) in
+    let P : Option Bridge → Type 0 = λ found. bridge_to board lane.bus ≡ found → Within most_posted most_delayed (world_by rule board h lane) in
     (elim (bridge_to board lane.bus) as P [
-      | None ↦ λ none. subst (Within 8 8) (sym (Quiet-run_by rule board h lane none run)) (within_empty 8 8)
+      | None ↦ λ none. subst (Within most_posted most_delayed) (sym (Quiet-run_by rule board h lane none run)) (within_empty most_posted most_delayed)
       | Some bridge ↦ λ is.
           let depths = Each-find D (λ (bridge : Bridge). bridge.bus == lane.bus) board.bridges bridge eight is in
-          within_more bridge.posted bridge.delayed 8 8 (world_by rule board h lane) depths.0 depths.1 (Within-run_by rule board h lane bridge is run)
+          within_more bridge.posted bridge.delayed most_posted most_delayed (world_by rule board h lane) depths.0 depths.1 (Within-run_by rule board h lane bridge is run)
     ]) refl

@@ -3,6 +3,7 @@ use Rattle.std.proofs.Common.{◌≡◌, ◌≢◌, ℕ, ◌-◌, ◌<◌, ◌�
 use Rattle.std.proofs.lemmas.Bool.{eqb-true}
 use Rattle.std.proofs.lemmas.List.{map-append, length-map, length-take-le}
 use Rattle.std.proofs.Math.Path.{fun_ext}
+use Rattle.board_model.specs.Limits.{most_in_flight}
 use Rattle.board_model.specs.declared.bridge.Bridge.{Bridge}
 use Rattle.board_model.specs.declared.bridge.Lane.{Lane as BridgeLane}
 use Rattle.board_model.specs.declared.board.Board.{Board}
@@ -147,7 +148,7 @@ module _ (carries : Item → Carried) (stamp_of : Item → ℕ) (board : Board) 
 
   pub phase_room : IsValid board → (lane : BridgeLane) (bridge : Bridge) (kept kept_back : ℕ) → bridge_to board lane.bus ≡ Some bridge
       → GotInOrder (hand lane) (got lane) (sent lane) kept → GotInOrder (hand (lane_back lane)) (got (lane_back lane)) (sent (lane_back lane)) kept_back
-      → (left_count (hand lane) (got lane) (sent lane) ≤ 32) × (left_count (hand (lane_back lane)) (got (lane_back lane)) (sent (lane_back lane)) ≤ 32)
+      → (left_count (hand lane) (got lane) (sent lane) ≤ most_in_flight) × (left_count (hand (lane_back lane)) (got (lane_back lane)) (sent (lane_back lane)) ≤ most_in_flight)
   phase_room valid lane bridge kept kept_back some order order_back =
       let back : BridgeLane = lane_back lane in
       may_settle carries board CameTo Did lane (received lane) (hand lane) (got lane) (sent lane) (received back) (hand back) (got back) (sent back) kept kept_back valid

@@ -1,6 +1,7 @@
 -- A bus puts one more item on a lane only where fewer than 32 are left.
 use Rattle.std.proofs.Common.{◌≡◌, ◌≢◌, ℕ, ◌<◌, Bool, true, false, ◌==◌, List, [], ◌∷◌, ◌++◌, length, refl, sym, ap, subst, ◌∙◌, arith, append-nil, append_assoc, length-append}
 use Rattle.std.proofs.lemmas.Bool.{eqb-true, eqb-false}
+use Rattle.board_model.specs.Limits.{most_posted, most_delayed, most_in_flight}
 use Rattle.board_model.specs.declared.bridge.Lane.{Lane as BridgeLane}
 use Rattle.board_model.specs.declared.board.Board.{Board}
 use Rattle.board_model.specs.Valid.{IsValid}
@@ -14,7 +15,7 @@ use Rattle.history_model.specs.Local.{bus_of, local_world, AllowedLocally, Local
 use Rattle.history_model.proofs.facts.BridgeLemmas.{flip, same_lane_true}
 use Rattle.law_local.proofs.Laws.{IsFit-valid, start_back, end_back, moved_other, Grows, event_grows}
 use Rattle.law_local.specs.room.Room.{lanes_at, put_on, Leaves, Puts}
-use Rattle.law_local.proofs.room.RoomLemmas.{sides_fit, far_side, to_eight}
+use Rattle.law_local.proofs.room.RoomLemmas.{sides_fit, far_side, to_limits}
 use Rattle.law_local.proofs.room.SideLemmas.{run_keeps}
 
 -- a lane that ends elsewhere is none of these
@@ -42,7 +43,7 @@ grows board came p lane (Arrive on mark) valid apart here allowed =
     ]) refl
 
 pub not_full : (board : Board) (came : ℕ → BridgeLane → List Carried) (part : ℕ → List Event) (lane : BridgeLane) (left left_back : List Carried) (e : Event)
-    → IsValid board → Leaves board came part lane left left_back → Puts board came part lane e → length left < 32
+    → IsValid board → Leaves board came part lane left left_back → Puts board came part lane e → length left < most_in_flight
 not_full board came part lane left left_back e valid ran puts =
     let from : ℕ = start_of board lane in
     let to : ℕ = end_of board lane in
@@ -51,12 +52,12 @@ not_full board came part lane left left_back e valid ran puts =
     let run : LocalRun board from (came from) (e ∷ p) = (puts.here, puts.allowed, ran.runs.near) in
     let x : Both = both (local_world board (came from) (e ∷ p)) lane in
     let y : Both = flip (both (lanes_at board came part to) lane) in
-    let one = run_keeps board (IsFit-valid board valid) from 8 8 (came from) (e ∷ p) run lane (to_eight board lane valid) refl ran.runs.apart ran.runs.none_near in
-    let other = far_side board came part lane left left_back 8 8 valid (to_eight board lane valid) ran in
+    let one = run_keeps board (IsFit-valid board valid) from most_posted most_delayed (came from) (e ∷ p) run lane (to_limits board lane valid) refl ran.runs.apart ran.runs.none_near in
+    let other = far_side board came part lane left left_back most_posted most_delayed valid (to_limits board lane valid) ran in
     let more = grows board (came from) p lane e valid ran.runs.apart puts.here puts.allowed in
     let there : came to lane ++ (left ++ more.items) ≡ x.here.flight =
     sym (append_assoc (came to lane) left more.items) ∙ (ap (λ (l : List Carried). l ++ more.items) ran.here ∙ sym more.grown) in
     let there_back : came from back ++ left_back ≡ y.here.flight = ran.back ∙ ap (λ (bus : ℕ). (lanes_at board came part bus back).flight) (start_back board lane) in
-    let room = sides_fit 8 8 (came to lane) (came from back) (left ++ more.items) left_back x y one other there there_back in
+    let room = sides_fit most_posted most_delayed (came to lane) (came from back) (left ++ more.items) left_back x y one other there there_back in
     let some : length (put_on board came part lane) < length (put_on board came part lane ++ more.items) = subst (λ (l : List Carried). length (put_on board came part lane) < length l) more.grown puts.more in
     omega (arith, room, some, length-append left more.items, length-append (put_on board came part lane) more.items)

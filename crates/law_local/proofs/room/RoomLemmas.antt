@@ -3,6 +3,7 @@ use Rattle.std.proofs.Common.{◌≡◌, ◌≢◌, ℕ, ◌+◌, ◌*◌, ◌-�
 use Rattle.list_facts.specs.Lists.{total}
 use Rattle.list_facts.proofs.TotalLemmas.{total-append}
 use Rattle.list_facts.proofs.EachLemmas.{Each-find}
+use Rattle.board_model.specs.Limits.{most_posted, most_delayed}
 use Rattle.board_model.specs.declared.bridge.Bridge.{Bridge}
 use Rattle.board_model.specs.declared.bridge.Lane.{Lane as BridgeLane}
 use Rattle.board_model.specs.declared.board.Board.{Board}
@@ -88,10 +89,10 @@ both_fit board came part lane left left_back posted delayed valid depths ran =
     let arrives : came_on board came part back ≡ x.back.flight = ap (λ (bus : ℕ). (lanes_at board came part bus back).flight) (end_back board lane) in
     record { here = there; back = omega (arith, here_back, ap length arrives) }
 
--- no depth is above eight
-pub to_eight : (board : Board) (lane : BridgeLane) → IsValid board → HasDepths board lane 8 8
-to_eight board lane valid = λ bridge is.
-    Each-find (λ (b : Bridge). (b.posted ≤ 8) × (b.delayed ≤ 8)) (λ (b : Bridge). b.bus == lane.bus) board.bridges bridge (WellFormed-depths board valid.well_formed) is
+-- each depth is one that may be written
+pub to_limits : (board : Board) (lane : BridgeLane) → IsValid board → HasDepths board lane most_posted most_delayed
+to_limits board lane valid = λ bridge is.
+    Each-find (λ (b : Bridge). (b.posted ≤ most_posted) × (b.delayed ≤ most_delayed)) (λ (b : Bridge). b.bus == lane.bus) board.bridges bridge (WellFormed-depths board valid.well_formed) is
 
 -- of a bridge that is there, its own
 pub of_bridge : (board : Board) (lane : BridgeLane) (bridge : Bridge) → bridge_to board lane.bus ≡ Some bridge → HasDepths board lane bridge.posted bridge.delayed

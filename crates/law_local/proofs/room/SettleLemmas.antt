@@ -1,6 +1,7 @@
 -- Two ends of a bridge may be settled.
 use Rattle.std.proofs.Common.{◌≡◌, ℕ, ◌-◌, ◌<◌, ◌≤◌, List, ◌++◌, length, map, sym, ap, ◌∙◌, arith, append_assoc, length-append, take-append-drop}
 use Rattle.std.proofs.lemmas.List.{map-append, length-map, append_cancel_right}
+use Rattle.board_model.specs.Limits.{most_posted, most_delayed, most_in_flight}
 use Rattle.board_model.specs.declared.bridge.Lane.{Lane as BridgeLane}
 use Rattle.board_model.specs.declared.board.Board.{Board}
 use Rattle.board_model.specs.Valid.{IsValid}
@@ -11,7 +12,7 @@ use Rattle.law_local.proofs.Laws.{end_back}
 use Rattle.lane_items.specs.declared.item.Item.{Item}
 use Rattle.lane_items.specs.Lane.{passed_on, kept_back, GotInOrder, left_count, Crosses}
 use Rattle.law_local.specs.room.Room.{put_on, TwoRuns, Leaves, Puts, LaneInPhase}
-use Rattle.law_local.proofs.room.RoomLemmas.{both_fit, to_eight, what_is_left}
+use Rattle.law_local.proofs.room.RoomLemmas.{both_fit, to_limits, what_is_left}
 use Rattle.law_local.proofs.room.FullLemmas.{not_full}
 
 -- a lane that is settled brought its items in order
@@ -56,11 +57,11 @@ module _ (carries : Item → Carried) (board : Board) (came : ℕ → BridgeLane
         back = ap (λ (bus : ℕ). came bus (lane_back lane) ++ LeftBack) (sym (end_back board lane)) ∙ there;
       }
 
-  pub may_settle : (left_count had got sent ≤ 32) × (left_count had_back got_back sent_back ≤ 32)
+  pub may_settle : (left_count had got sent ≤ most_in_flight) × (left_count had_back got_back sent_back ≤ most_in_flight)
   may_settle =
       let one = what_is_left had got sent kept order in
       let other = what_is_left had_back got_back sent_back kept_back order_back in
-      let room = both_fit board came part lane Left LeftBack 8 8 valid (to_eight board lane valid) leaves_both in (
+      let room = both_fit board came part lane Left LeftBack most_posted most_delayed valid (to_limits board lane valid) leaves_both in (
         omega (arith, room.here, one.2, length-append here.not_taken (map carries one.0), length-map one.0 carries),
         omega (arith, room.back, other.2, length-append back.not_taken (map carries other.0), length-map other.0 carries),
       )

@@ -50,7 +50,7 @@ pub(crate) fn read_data(
 fn take_data(words: &mut LineWords) -> Option<DataWord>
     ensures { TakesData result words.old words.new }
 {
-    if let Some(value) = words.take_number(16, 8) {
+    if let Some(value) = words.take_number(16, 8) { // not a limit
         return Some(DataWord::Data(Phase {
             value: value as u32,
             enables: 15,

@@ -82,7 +82,7 @@ fn take_other_times(words: &mut LineWords) -> Result<(u64, u64), AtWord>
 fn take_bus(board: &Board, words: &mut LineWords) -> Result<u8, AtWord>
     ensures { Gives result words.new (bus_form board.now words.old) }
 {
-    match words.take_number(10, 9) {
+    match words.take_number(10, 9) { // not a limit
         Some(number) => bus_there(board, number),
         None => take_other_bus(board, words),
     }
@@ -161,7 +161,7 @@ fn take_address(space: Space, words: &mut LineWords) -> Result<Addressed, AtWord
 fn take_memory_address(words: &mut LineWords) -> Result<Addressed, AtWord>
     ensures { Gives result words.new (dword_by (as_in_boards 4 (long true words.old))) }
 {
-    match words.take_number(16, 8) {
+    match words.take_number(16, 8) { // not a limit
         Some(address) => dword_at(address),
         None => take_other_address(words),
     }
@@ -204,7 +204,7 @@ fn long_of(word: &[u8]) -> Option<u64>
 fn take_port_address(words: &mut LineWords) -> Result<Addressed, AtWord>
     ensures { Gives result words.new (dword_by (as_in_boards 4 (hex 8 words.old))) }
 {
-    match words.take_number(16, 8) {
+    match words.take_number(16, 8) { // not a limit
         Some(address) => dword_at(address),
         None => take_other_port(words),
     }
@@ -225,7 +225,7 @@ fn take_other_port(words: &mut LineWords) -> Result<Addressed, AtWord>
 fn port_of(word: &[u8]) -> Option<u32>
     ensures { Reads result (hex_of 8 word.now) }
 {
-    match hex(word, 8) {
+    match hex(word, 8) { // not a limit
         Ok(number) => Some(number),
         Err(_fault) => None,
     }

@@ -74,7 +74,7 @@ impl<'a> Initiators<'a> {
 fn sum_of(bus: u8, word: &[u8]) -> u8 {
     let mut sum = bus;
     for byte in word {
-        sum = sum.wrapping_mul(31).wrapping_add(*byte);
+        sum = sum.wrapping_mul(31).wrapping_add(*byte); // not a limit
     }
     sum
 }

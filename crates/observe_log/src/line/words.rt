@@ -180,7 +180,7 @@ fn type_1_of(first: &[u8], second: &[u8], third: &[u8]) -> Option<Addressed>
     ensures { result ≡ type_1_of first.now second.now third.now }
 {
     let bus = part_of(first, 255)?;
-    let device = part_of(second, 31)?;
+    let device = part_of(second, 31)?; // not a limit
     let register = part_of(third, 63)?;
     Some(Addressed::Type1 {
         bus,
@@ -196,7 +196,7 @@ fn device_of(part: &[u8]) -> Option<Option<u8>>
     if is_word(part, b"-") {
         return Some(None);
     }
-    let device = part_of(part, 31)?;
+    let device = part_of(part, 31)?; // not a limit
     Some(Some(device))
 }
 

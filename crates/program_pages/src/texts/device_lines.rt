@@ -110,7 +110,7 @@ fn misfit(line: &[u8], place: usize, wanted: WantedWord, word: &[u8]) -> Option<
         WordKind::Vector => (is_below(line, place), "V is below VECTORS"),
         WordKind::Seed => match Words::new(word).hex() {
             Ok(number) => (number <= 0xff, "SEED is at most ff"),
-            Err(_) => return WantedWord("SEED", WordKind::Hex(8)).misfit(word),
+            Err(_) => return WantedWord("SEED", WordKind::Hex(8)).misfit(word), // not a limit
         },
         _ => return wanted.misfit(word),
     };
@@ -119,7 +119,7 @@ fn misfit(line: &[u8], place: usize, wanted: WantedWord, word: &[u8]) -> Option<
 
 fn is_vector_count(word: &[u8]) -> bool {
     match byte_at(word, 0) {
-        Some(count) => count <= 32 && count.is_power_of_two(),
+        Some(count) => count <= 32 && count.is_power_of_two(), // not a limit
         None => false,
     }
 }

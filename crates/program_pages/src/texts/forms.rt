@@ -2,6 +2,7 @@
 //! device` call it.
 use crate::texts::places::{first_word, is_among, word_at};
 use crate::texts::wanted::{WantedWord, WordKind};
+use board_model::{MOST_DELAYED, MOST_DWORDS, MOST_POSTED, MOST_TRIES};
 use board_statements::is_word;
 
 const NAME: WantedWord = WantedWord("NAME", WordKind::Name);
@@ -27,11 +28,15 @@ const BUS: WantedWord = WantedWord("BUS", WordKind::Decimal(0, 255));
 /// The bus of a bridge, which is not bus 0.
 const BUS_BEHIND: WantedWord = WantedWord("BUS", WordKind::Decimal(1, 255));
 
-const DEV: WantedWord = WantedWord("DEV", WordKind::Decimal(0, 31));
+const DEV: WantedWord = WantedWord("DEV", WordKind::Decimal(0, 31)); // not a limit
 
 const TOKENS: WantedWord = WantedWord("COUNT", WordKind::Decimal(0, 1_000_000));
 
-const COUNT: WantedWord = WantedWord("COUNT", WordKind::Decimal(1, 8));
+const BURST: WantedWord = WantedWord("COUNT", WordKind::Decimal(1, MOST_DWORDS as u32));
+
+const POSTED: WantedWord = WantedWord("COUNT", WordKind::Decimal(1, MOST_POSTED as u32));
+
+const DELAYED: WantedWord = WantedWord("COUNT", WordKind::Decimal(1, MOST_DELAYED as u32));
 
 const MODE: WantedWord = WantedWord("MODE", WordKind::Decimal(0, 1));
 
@@ -39,7 +44,7 @@ const PLANNED: WantedWord = WantedWord("K", WordKind::Decimal(1, 1_000_000));
 
 const REGISTER: WantedWord = WantedWord("REG", WordKind::Decimal(0, 63));
 
-const TRIES: WantedWord = WantedWord("TRIES", WordKind::Decimal(1, 65_536));
+const TRIES: WantedWord = WantedWord("TRIES", WordKind::Decimal(1, MOST_TRIES));
 
 const LENGTH: WantedWord = WantedWord("LENGTH", WordKind::Decimal(1, 4096));
 
@@ -49,15 +54,18 @@ const DEVICE: WantedWord = WantedWord("DEVICE", WordKind::Hex(4));
 
 const MESSAGE: WantedWord = WantedWord("DATA", WordKind::Hex(4));
 
-const PORT: WantedWord = WantedWord("ADDR", WordKind::Hex(8));
+/// Digits of a dword.
+const OF_A_DWORD: u8 = 8; // not a limit
 
-const MASK: WantedWord = WantedWord("MASK", WordKind::Hex(8));
+const PORT: WantedWord = WantedWord("ADDR", WordKind::Hex(OF_A_DWORD));
 
-const VALUE: WantedWord = WantedWord("VALUE", WordKind::Hex(8));
+const MASK: WantedWord = WantedWord("MASK", WordKind::Hex(OF_A_DWORD));
 
-const BASE: WantedWord = WantedWord("BASE", WordKind::Hex(8));
+const VALUE: WantedWord = WantedWord("VALUE", WordKind::Hex(OF_A_DWORD));
 
-const LIMIT: WantedWord = WantedWord("LIMIT", WordKind::Hex(8));
+const BASE: WantedWord = WantedWord("BASE", WordKind::Hex(OF_A_DWORD));
+
+const LIMIT: WantedWord = WantedWord("LIMIT", WordKind::Hex(OF_A_DWORD));
 
 const ADDRESS: WantedWord = WantedWord("ADDR", WordKind::Long);
 
@@ -106,7 +114,7 @@ static BOARD_FORMS: [WordsOfLine; 18] = [
     ("master", &[NAME, ON, BUS], More::Nothing),
     ("id", &[VENDOR, DEVICE], More::Nothing),
     ("stall", &[TOKENS], More::Nothing),
-    ("burst", &[COUNT], More::Nothing),
+    ("burst", &[BURST], More::Nothing),
     (
         "range abort",
         &[SPACE, BASE_THERE, SIZE_THERE],
@@ -151,8 +159,8 @@ static OPTIONS: [Choice; 6] = [
     ("mem", &[BASE, LIMIT]),
     ("pref", &[LONG_BASE, LONG_LIMIT]),
     ("io", &[BASE, LIMIT]),
-    ("posted", &[COUNT]),
-    ("delayed", &[COUNT]),
+    ("posted", &[POSTED]),
+    ("delayed", &[DELAYED]),
     ("abort", &[MODE]),
 ];
 
@@ -198,7 +206,7 @@ fn wanted_in(form: &WordsOfLine, line: &[u8], place: usize) -> Option<WantedWord
 fn in_space(wanted: WantedWord, line: &[u8]) -> WantedWord {
     match (wanted, word_at(line, 1)) {
         (WantedWord(word, WordKind::InSpace), Some(b"mem")) => WantedWord(word, WordKind::Long),
-        (WantedWord(word, WordKind::InSpace), _) => WantedWord(word, WordKind::Hex(8)),
+        (WantedWord(word, WordKind::InSpace), _) => WantedWord(word, WordKind::Hex(OF_A_DWORD)),
         _ => wanted,
     }
 }

@@ -1,13 +1,9 @@
 use crate::texts::places::{byte_at, first_word, word_at};
+use board_model::{MOST_CHILDREN, MOST_OPS};
 use board_statements::Words;
 
-/// How many bridges may be on a bus, and how many operations a master may have.
-const MOST_BRIDGES: usize = 8;
-
-const MOST_OPERATIONS: usize = 1024;
-
-/// Whether the bus above the bridge of a line has eight bridges already.
-pub(super) fn has_eight_bridges(before: &[u8], line: &[u8]) -> bool {
+/// Whether the bus above the bridge of a line has as many bridges as it may have.
+pub(super) fn has_most_bridges(before: &[u8], line: &[u8]) -> bool {
     let Some((bus, _)) = buses_of_bridge(line) else {
         return false;
     };
@@ -17,7 +13,7 @@ pub(super) fn has_eight_bridges(before: &[u8], line: &[u8]) -> bool {
             found = found.saturating_add(1);
         }
     }
-    found >= MOST_BRIDGES
+    found >= MOST_CHILDREN
 }
 
 /// The buses above and below the bridge of a line, if it is the line of one.
@@ -42,7 +38,7 @@ pub(super) fn has_most_operations(text: &[u8]) -> bool {
             _ => count.saturating_add(1),
         };
     }
-    count >= MOST_OPERATIONS
+    count >= MOST_OPS
 }
 
 /// The first bus of a board text that a line names and that is not there, and the number of that

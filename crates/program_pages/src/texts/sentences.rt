@@ -1,8 +1,9 @@
 //! What is said of a line, by its first word.
 use crate::texts::board_lines::Case;
 use crate::texts::forms::option_at;
-use crate::texts::limits::{has_eight_bridges, has_most_operations};
+use crate::texts::limits::{has_most_bridges, has_most_operations};
 use crate::texts::places::{first_word, is_among, word_at};
+use board_model::MOST_DWORDS;
 use text_faults::LineFault;
 
 /// The first words of some lines, and what is said of these.
@@ -137,8 +138,8 @@ pub(super) fn sentence(case: &Case, fault: LineFault) -> Option<&'static str> {
     }
 }
 
-/// The place of the ninth word that a write brings.
-const NINTH: usize = 10;
+/// The place of the first word that a write brings and that is too many.
+const TOO_MANY_WORDS: usize = 2 + MOST_DWORDS;
 
 /// What is said of a line before its first word is looked at: that it has none, or what stands
 /// where it is at fault.
@@ -154,8 +155,8 @@ fn special(case: &Case, fault: LineFault) -> Option<&'static str> {
         LineFault::Unaligned if word_at(line, 1) == Some(b"io".as_slice()) => {
             said(&UNALIGNED_PORTS, line)
         }
-        LineFault::PastItsBlock if place >= NINTH => Some("a write has at most 8 words"),
-        LineFault::OverLimit if has_eight_bridges(case.before, line) => {
+        LineFault::PastItsBlock if place >= TOO_MANY_WORDS => Some("a write has at most 8 words"),
+        LineFault::OverLimit if has_most_bridges(case.before, line) => {
             Some("a bus has at most 8 bridges")
         }
         _ => None,

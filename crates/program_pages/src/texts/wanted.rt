@@ -42,7 +42,10 @@ impl WantedWord {
                 Text::Plain("hexadecimal numbers are written without 0x")
             }
             WordKind::Hex(most) => Text::Digits { word, most },
-            WordKind::Long if parts(found, b':').is_none() => Text::Digits { word, most: 8 },
+            WordKind::Long if parts(found, b':').is_none() => Text::Digits {
+                word,
+                most: 8, // not a limit
+            },
             WordKind::Long => Text::Plain(text_of_long(wide)),
             WordKind::Decimal(low, high) => Text::Decimal { word, low, high },
             WordKind::Data => Text::Plain(

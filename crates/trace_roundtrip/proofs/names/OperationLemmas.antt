@@ -7,6 +7,7 @@ use Rattle.std.proofs.lemmas.Bool.Decides.{nat_tests}
 use Rattle.std.proofs.lemmas.Bool.{and_parts}
 use Rattle.std.proofs.lemmas.List.Folds.{list_all-append}
 use Rattle.pci_command.specs.declared.op_id.OpId.{OpId}
+use Rattle.board_model.specs.Limits.{most_ops}
 use Rattle.board_model.specs.declared.agents.Master.{Master}
 use Rattle.board_model.specs.declared.board.Board.{Board}
 use Rattle.board_model.specs.Requests.{op_of}
@@ -85,7 +86,7 @@ op_is_word board o fits formed some =
 -- The word is read.
 
 -- an index is read as it is printed
-index_is_read : (index : ℕ) → index < 1024 → at_most 65535 (number_of (decimal index)) ≡ Some index
+index_is_read : (index : ℕ) → index < most_ops → at_most 65535 (number_of (decimal index)) ≡ Some index
 index_is_read index small =
     let few : leb index 65535 ≡ true = grind (arith, nat_tests) in
     rw (number_is_read index (omega arith), few) refl

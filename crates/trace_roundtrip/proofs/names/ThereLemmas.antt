@@ -2,6 +2,7 @@
 use Rattle.std.proofs.Common.{◌≡◌, true, false, ◌<◌, Option, Some, None, refl, arith}
 use Rattle.std.specs.Prelude.{is_some, slice_get}
 use Rattle.pci_command.specs.declared.op_id.OpId.{OpId}
+use Rattle.board_model.specs.Limits.{most_ops, most_tries}
 use Rattle.board_model.specs.declared.op.Op.{Op}
 use Rattle.board_model.specs.declared.op.Op.TheVariants.{Read, Write, CfgRead, CfgWrite, Poll}
 use Rattle.board_model.specs.declared.agents.Master.{Master}
@@ -15,8 +16,8 @@ use Rattle.board_model.proofs.Laws.{op_there, op_limits}
 pub record There (board : Board) (o : OpId) : Type 0 where
   pub master : Master
   pub found : slice_get board.masters o.master ≡ Some master
-  pub index : o.index < 1024
-  pub attempt : o.attempt < 65536
+  pub index : o.index < most_ops
+  pub attempt : o.attempt < most_tries
   pub once : names_poll board o ≡ false → o.attempt ≡ 0
 
 -- an operation is tried once where it is no poll

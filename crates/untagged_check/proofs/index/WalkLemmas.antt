@@ -6,6 +6,7 @@ use Rattle.std.specs.List.{list_all}
 use Rattle.pci_command.specs.declared.command.Space.{Space}
 use Rattle.pci_command.specs.declared.phases.Phase.{Phase}
 use Rattle.pci_command.specs.declared.op_id.OpId.{OpId}
+use Rattle.board_model.specs.Limits.{most_ops}
 use Rattle.board_model.specs.declared.op.Op.{Op}
 use Rattle.board_model.specs.declared.agents.Master.{Master}
 use Rattle.board_model.specs.declared.board.Board.{Board}
@@ -93,6 +94,6 @@ all_at test [] i d all within = absurd (omega (arith, within))
 all_at test (m ∷ masters) zero d all within = (and_parts (test m) (list_all test masters) all).0
 all_at test (m ∷ masters) (suc i) d all within = all_at test masters i d (and_parts (test m) (list_all test masters) all).1 (omega (arith, within))
 
-pub few_at : (board : Board) (i : ℕ) (d : Master) → IsValid board → i < length board.masters → length (get_or board.masters i d).ops ≤ 1024
+pub few_at : (board : Board) (i : ℕ) (d : Master) → IsValid board → i < length board.masters → length (get_or board.masters i d).ops ≤ most_ops
 few_at board i d valid within =
     (Master-parts (get_or board.masters i d) (all_at is_well_formed_master board.masters i d (WellFormed-parts board valid.well_formed).masters within)).few

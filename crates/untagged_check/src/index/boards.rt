@@ -2,6 +2,7 @@ ghost use Rattle.std.specs.Prelude.{◌≡◌, ◌≤◌, OnOk, length};
 ghost use Rattle.board_tree.specs.Decodable.{IsDecodable};
 ghost use Rattle.safe_model.specs.Ops.{ops_by, ops_from};
 ghost use Rattle.untagged_check.specs.index.Kept.{Lists, Writes, dwords_written, write_of};
+ghost use Rattle.board_model.specs.Limits.{most_ops};
 
 use crate::index::entry::Write;
 use crate::index::index::WriteIndex;
@@ -40,7 +41,7 @@ fn list_program(
     ops: &[Op],
 ) -> Result<(), NoMemory>
     requires decodable { IsDecodable board.now }
-    requires few { length ops.now ≤ 1024 }
+    requires few { length ops.now ≤ most_ops }
     ensures { OnOk result
         (Lists board.now landed.now (ops_from master 0 ops.now) writes.old writes.new) }
 {

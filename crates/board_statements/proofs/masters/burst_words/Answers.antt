@@ -23,7 +23,7 @@ loop-words-preserved c = record {
   few = c.loop-words.invariant.few;
   kept =
       let most = c.loop-words.invariant.few in
-      let last = c.if-len-lt8.false in
+      let last = c.if-len-lt-MOST_DWORDS.false in
       let size = c.len.ensures.value in
       leaves _ _ _ _ _ _ c.in_ok-phase.ensures (omega arith) c.loop-words.invariant.kept;
 }

@@ -5,7 +5,7 @@ use Rattle.list_facts.proofs.EachLemmas.{Each-push}
 use Rattle.board_model.specs.declared.agents.Master.{Master}
 use Rattle.history_model.specs.Answers.{is_on}
 use Rattle.bus_agents.specs.Turns.{MasterView, MasterStands}
-use Rattle.board_model.proofs.claims.FewLemmas.{master_more}
+use Rattle.board_model.proofs.FewLemmas.{master_more}
 use Rattle.engine_segments.proofs.NumberLemmas.{passing_more, passing_skipped}
 use Rattle.engine_segments.proofs.agents.masters_on.Goals as goal
 use Rattle.engine_segments.proofs.agents.masters_on.Goals.{then-is_on+in_ok-push, else-is_on}

@@ -5,7 +5,7 @@ use Rattle.list_facts.proofs.EachLemmas.{Each-push}
 use Rattle.board_model.specs.declared.agents.Target.{Target}
 use Rattle.bus_targets.specs.State.{TargetView}
 use Rattle.bus_targets.specs.Stands.{TargetStands}
-use Rattle.board_model.proofs.claims.FewLemmas.{target_more}
+use Rattle.board_model.proofs.FewLemmas.{target_more}
 use Rattle.engine_segments.specs.First.{has_target}
 use Rattle.engine_segments.proofs.NumberLemmas.{passing_more, passing_skipped}
 use Rattle.engine_segments.proofs.agents.targets_on.Goals as goal

@@ -1,7 +1,7 @@
 use Rattle.std.proofs.Common.{◌≡◌, ℕ, ◌==◌, ◌<◌, true, false, length, get_or, Some, refl, arith, slice_get}
 use Rattle.std.proofs.lemmas.Bool.Decides.{nat_tests}
 use Rattle.std.proofs.lemmas.Option.{slice_get_read}
-use Rattle.board_model.proofs.claims.FewLemmas.{few_masters_before, master_more}
+use Rattle.board_model.proofs.FewLemmas.{few_masters_before, master_more}
 use Rattle.history_model.specs.Answers.{is_on}
 use Rattle.run_waves.specs.Signals.{progress}
 use Rattle.run_waves.proofs.PassLemmas.{flat_one, flat_none, master_on}

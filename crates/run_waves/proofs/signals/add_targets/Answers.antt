@@ -1,7 +1,7 @@
 use Rattle.std.proofs.Common.{◌≡◌, ℕ, ◌==◌, ◌<◌, true, false, length, get_or, Some, refl, arith, slice_get}
 use Rattle.std.proofs.lemmas.Bool.Decides.{nat_tests}
 use Rattle.std.proofs.lemmas.Option.{slice_get_read}
-use Rattle.board_model.proofs.claims.FewLemmas.{few_targets_before, target_more}
+use Rattle.board_model.proofs.FewLemmas.{few_targets_before, target_more}
 use Rattle.run_waves.specs.Signals.{is_target_on, tokens_left}
 use Rattle.run_waves.proofs.PassLemmas.{flat_one, flat_none, target_on}
 use Rattle.run_waves.proofs.signals.add_targets.Goals as goal

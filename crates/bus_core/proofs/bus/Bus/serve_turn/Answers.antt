@@ -1,6 +1,7 @@
 use Rattle.std.proofs.Common.{◌≡◌, ◌+◌, List, None, ap, subst, sym, ◌∙◌, arith}
 use Rattle.std.proofs.lemmas.List.{with_items_is}
 use Rattle.std.specs.Prelude.{IsTrue}
+use Rattle.board_model.specs.Limits.{most_ports}
 use Rattle.board_model.specs.declared.board.Board.{Board}
 use Rattle.board_model.specs.WellFormed.{is_well_formed}
 use Rattle.history_model.specs.declared.event.By.TheVariants.{Master}
@@ -25,15 +26,15 @@ returns-in-None-clause-serves c = λ master there turn.
 
 pub returns-in-Retry-clause-serves : goal.returns-in-Retry-clause-serves
 returns-in-Retry-clause-serves c = λ master there turn.
-    let answers = subst (λ (a : Answer). BusAnswers c.args.board.now c.args.self.now (9 + c.args.place) c.args.op a c.in-Some.given.over c.answer.new.self) c.in-Retry.is c.in-Some.ensures.answers in
+    let answers = subst (λ (a : Answer). BusAnswers c.args.board.now c.args.self.now (most_ports + c.args.place) c.args.op a c.in-Some.given.over c.answer.new.self) c.in-Retry.is c.in-Some.ensures.answers in
     (c.in-Retry.cause, master_retried c.args.board.now c.args.self.now c.answer.new.self c.args.place master c.args.op c.in-Retry.cause c.in-Some.given.over there turn answers)
 
 pub returns-in-Gives-clause-serves : goal.returns-in-Gives-clause-serves
 returns-in-Gives-clause-serves c = λ master there turn.
     let mid : BusView = record { bus = c.self.inside.bus; ports = c.self.inside.ports.items; masters = c.self.inside.masters.items; targets = c.self.inside.targets.items; through = c.self.inside.through } in
     let new : List MasterView → BusView = λ masters. record { bus = c.self.inside.bus; ports = c.self.inside.ports.items; masters = masters; targets = c.self.inside.targets.items; through = c.self.inside.through } in
-    let answers = subst (λ (a : Answer). BusAnswers c.args.board.now c.args.self.now (9 + c.args.place) c.args.op a c.in-Some.given.over c.answer.new.self) c.in-Gives.is c.in-Some.ensures.answers in
-    let mid_answers = subst (λ (s : BusView). BusAnswers c.args.board.now c.args.self.now (9 + c.args.place) c.args.op (Gives c.in-Gives.step c.in-Gives.at) c.in-Some.given.over s) (sym c.self.view_is) answers in
+    let answers = subst (λ (a : Answer). BusAnswers c.args.board.now c.args.self.now (most_ports + c.args.place) c.args.op a c.in-Some.given.over c.answer.new.self) c.in-Gives.is c.in-Some.ensures.answers in
+    let mid_answers = subst (λ (s : BusView). BusAnswers c.args.board.now c.args.self.now (most_ports + c.args.place) c.args.op (Gives c.in-Gives.step c.in-Gives.at) c.in-Some.given.over s) (sym c.self.view_is) answers in
     let told = subst (λ (ms : List MasterView). TellsMaster c.board-plain.result.now c.args.place c.in-Gives.step ms c.tell_master.new.masters) c.as_mut_slice.ensures.value c.tell_master.ensures in
     let tells = subst (λ (b : Board). TellsMaster b c.args.place c.in-Gives.step mid.masters c.tell_master.new.masters) c.board-plain.ensures.value told in
     let same : mid.masters ≡ c.args.self.now.masters = ap (λ (s : BusView). s.masters) c.self.view_is ∙ c.in-Some.ensures.masters in

@@ -1,4 +1,5 @@
 use Rattle.std.proofs.Common.{◌≡◌, ◌+◌, false, refl, sym, ◌∙◌, arith}
+use Rattle.board_model.specs.Limits.{most_waiting}
 use Rattle.bus_segment.specs.turns.Works.{seen}
 use Rattle.bus_segment.proofs.turns.WorkLemmas.{works_none, works_further, works_within}
 use Rattle.bus_segment.proofs.turns.receiving.receive_from.Goals as goal
@@ -23,7 +24,7 @@ returns-then-not-receive_one-clause-works g c =
     let i = c.loop-received.invariant in
     let both = works_further {End = End} E.had E.sent E.got E.kept E.paired c.args.board.now c.loop-received._received 1 (seen c.args.segment.now.bus c.args.segment.now.stamp c.args.segment.now.stopped) (seen c.loop-received.segment.bus c.loop-received.segment.stamp c.loop-received.segment.stopped) (seen c.receive_one.new.segment.bus c.receive_one.new.segment.stamp c.receive_one.new.segment.stopped)
     c.args.segment.now.ends.items c.loop-received.segment.ends.items c.receive_one.new.segment.ends.items c.args.segment.now.events.items c.loop-received.segment.events.items c.receive_one.new.segment.events.items c.requires.going i.going i.works c.receive_one.ensures.works in
-    works_within {End = End} E.had E.sent E.got E.kept E.paired c.args.board.now (c.loop-received._received + 1) 32 (seen c.args.segment.now.bus c.args.segment.now.stamp c.args.segment.now.stopped) (seen c.receive_one.new.segment.bus c.receive_one.new.segment.stamp c.receive_one.new.segment.stopped)
+    works_within {End = End} E.had E.sent E.got E.kept E.paired c.args.board.now (c.loop-received._received + 1) most_waiting (seen c.args.segment.now.bus c.args.segment.now.stamp c.args.segment.now.stopped) (seen c.receive_one.new.segment.bus c.receive_one.new.segment.stamp c.receive_one.new.segment.stopped)
     c.args.segment.now.ends.items c.receive_one.new.segment.ends.items c.args.segment.now.events.items c.receive_one.new.segment.events.items (omega (arith, both.most, c.loop-received-test.true)) both
 
 pub returns-then-stopped-clause-works : goal.returns-then-stopped-clause-works
@@ -33,7 +34,7 @@ returns-then-stopped-clause-works g c =
     let i = c.loop-received.invariant in
     let both = works_further {End = End} E.had E.sent E.got E.kept E.paired c.args.board.now c.loop-received._received 1 (seen c.args.segment.now.bus c.args.segment.now.stamp c.args.segment.now.stopped) (seen c.loop-received.segment.bus c.loop-received.segment.stamp c.loop-received.segment.stopped) (seen c.receive_one.new.segment.bus c.receive_one.new.segment.stamp c.receive_one.new.segment.stopped)
     c.args.segment.now.ends.items c.loop-received.segment.ends.items c.receive_one.new.segment.ends.items c.args.segment.now.events.items c.loop-received.segment.events.items c.receive_one.new.segment.events.items c.requires.going i.going i.works c.receive_one.ensures.works in
-    works_within {End = End} E.had E.sent E.got E.kept E.paired c.args.board.now (c.loop-received._received + 1) 32 (seen c.args.segment.now.bus c.args.segment.now.stamp c.args.segment.now.stopped) (seen c.receive_one.new.segment.bus c.receive_one.new.segment.stamp c.receive_one.new.segment.stopped)
+    works_within {End = End} E.had E.sent E.got E.kept E.paired c.args.board.now (c.loop-received._received + 1) most_waiting (seen c.args.segment.now.bus c.args.segment.now.stamp c.args.segment.now.stopped) (seen c.receive_one.new.segment.bus c.receive_one.new.segment.stamp c.receive_one.new.segment.stopped)
     c.args.segment.now.ends.items c.receive_one.new.segment.ends.items c.args.segment.now.events.items c.receive_one.new.segment.events.items (omega (arith, both.most, c.loop-received-test.true)) both
 
 pub loop-received-preserved : goal.loop-received-preserved

@@ -1,4 +1,5 @@
 use Rattle.std.proofs.Common.{◌≡◌, ◌+◌, ◌-◌, ◌≤◌, length, sym, subst, arith}
+use Rattle.board_model.specs.Limits.{most_ports}
 use Rattle.bus_core.specs.Bus.{shape_of}
 use Rattle.bus_segment.specs.turns.Works.{seen, Works, most_at}
 use Rattle.bus_segment.proofs.turns.LineLemmas.{lanes_many, most_master}
@@ -23,6 +24,6 @@ returns-else-line-lt-MASTERS-clause-works g c =
 pub returns-else-line-lt-MASTERS-clause-quiet : goal.returns-else-line-lt-MASTERS-clause-quiet
 returns-else-line-lt-MASTERS-clause-quiet g c = λ same on.
     let End : Type 0 = g.row.L.Denot in
-    let high : c.args.line ≡ 9 + (c.args.line - 9) = omega (arith, c.if-line-lt-MASTERS.false) in
-    let few : length (shape_of c.args.segment.now.bus).lanes ≤ 9 = omega (arith, lanes_many c.args.segment.now.bus, c.requires.ports) in
-    master_line {End = End} c.args.board.now c.args.segment.now.bus c.serve_master.new.self.bus c.args.segment.now.ends.items c.serve_master.new.self.ends.items c.args.line (c.args.line - 9) high few (c.serve_master.ensures.quiet same on)
+    let high : c.args.line ≡ most_ports + (c.args.line - most_ports) = omega (arith, c.if-line-lt-MASTERS.false) in
+    let few : length (shape_of c.args.segment.now.bus).lanes ≤ most_ports = omega (arith, lanes_many c.args.segment.now.bus, c.requires.ports) in
+    master_line {End = End} c.args.board.now c.args.segment.now.bus c.serve_master.new.self.bus c.args.segment.now.ends.items c.serve_master.new.self.ends.items c.args.line (c.args.line - most_ports) high few (c.serve_master.ensures.quiet same on)

@@ -1,4 +1,5 @@
 use Rattle.std.proofs.Common.{◌≡◌, ◌+◌, ◌<◌, ◌≤◌, false, length, sym, subst, ◌∙◌, arith}
+use Rattle.board_model.specs.Limits.{most_lines, most_served}
 use Rattle.bus_core.specs.Bus.{BusView}
 use Rattle.bus_segment.specs.turns.Works.{seen, AreAsked, most_at}
 use Rattle.bus_segment.proofs.turns.WorkLemmas.{works_none, works_further, works_within}
@@ -16,7 +17,7 @@ grants-init g c =
       bound = omega (arith, left_at_first c.lines-lines.result);
       served = asked.served;
       quiet = λ same on. all_silent {End = End} c.args.board.now c.args.segment.now.bus c.args.segment.now.ends.items c.lines-lines.result asked;
-      works = works_none {End = End} E.had E.sent E.got E.kept E.paired c.args.board.now 152 (seen c.args.segment.now.bus c.args.segment.now.stamp c.args.segment.now.stopped) c.args.segment.now.ends.items c.args.segment.now.events.items;
+      works = works_none {End = End} E.had E.sent E.got E.kept E.paired c.args.board.now most_served (seen c.args.segment.now.bus c.args.segment.now.stamp c.args.segment.now.stopped) c.args.segment.now.ends.items c.args.segment.now.events.items;
     }
 
 pub serve-requires-clause-ends : goal.serve-requires-clause-ends
@@ -31,7 +32,7 @@ pub serve-requires-clause-spare : goal.serve-requires-clause-spare
 serve-requires-clause-spare g c =
     let i = c.grants.invariant in
     let asks = c.in-Some.ensures.granted.asks in
-    let low : c.in-Some.line < 17 = served_low c.args.segment.now.bus c.in-Some.line c.requires.ports c.requires.masters (i.served c.in-Some.line asks) in
+    let low : c.in-Some.line < most_lines = served_low c.args.segment.now.bus c.in-Some.line c.requires.ports c.requires.masters (i.served c.in-Some.line asks) in
     let less = left_cleared c.grants.lines c.in-Some.line low asks in
     omega (arith, less, i.bound, i.spare, c.requires.spare)
 
@@ -39,7 +40,7 @@ pub grants-smaller : goal.grants-smaller
 grants-smaller g c =
     let i = c.grants.invariant in
     let asks = c.in-Some.ensures.granted.asks in
-    let low : c.in-Some.line < 17 = served_low c.args.segment.now.bus c.in-Some.line c.requires.ports c.requires.masters (i.served c.in-Some.line asks) in
+    let low : c.in-Some.line < most_lines = served_low c.args.segment.now.bus c.in-Some.line c.requires.ports c.requires.masters (i.served c.in-Some.line asks) in
     let less = left_cleared c.grants.lines c.in-Some.line low asks in
     omega (arith, less, most_some c.in-Some.line)
 
@@ -51,10 +52,10 @@ grants-preserved g c =
     let e = c.serve.ensures in
     let on : c.grants.segment.stopped ≡ false = sym c.stopped.ensures ∙ c.grants-test.true in
     let asks = c.in-Some.ensures.granted.asks in
-    let low : c.in-Some.line < 17 = served_low c.args.segment.now.bus c.in-Some.line c.requires.ports c.requires.masters (i.served c.in-Some.line asks) in
+    let low : c.in-Some.line < most_lines = served_low c.args.segment.now.bus c.in-Some.line c.requires.ports c.requires.masters (i.served c.in-Some.line asks) in
     let less = left_cleared c.grants.lines c.in-Some.line low asks in
-    let bound : length c.serve.new.segment.events.items + left (cleared c.grants.lines c.in-Some.line) 17 ≤ length c.args.segment.now.events.items + 152 = omega (arith, less, i.bound, e.works.most) in
-    let both = works_further {End = End} E.had E.sent E.got E.kept E.paired c.args.board.now 152 (most_at c.in-Some.line) (seen c.args.segment.now.bus c.args.segment.now.stamp c.args.segment.now.stopped) (seen c.grants.segment.bus c.grants.segment.stamp c.grants.segment.stopped) (seen c.serve.new.segment.bus c.serve.new.segment.stamp c.serve.new.segment.stopped)
+    let bound : length c.serve.new.segment.events.items + left (cleared c.grants.lines c.in-Some.line) most_lines ≤ length c.args.segment.now.events.items + most_served = omega (arith, less, i.bound, e.works.most) in
+    let both = works_further {End = End} E.had E.sent E.got E.kept E.paired c.args.board.now most_served (most_at c.in-Some.line) (seen c.args.segment.now.bus c.args.segment.now.stamp c.args.segment.now.stopped) (seen c.grants.segment.bus c.grants.segment.stamp c.grants.segment.stopped) (seen c.serve.new.segment.bus c.serve.new.segment.stamp c.serve.new.segment.stopped)
     c.args.segment.now.ends.items c.grants.segment.ends.items c.serve.new.segment.ends.items c.args.segment.now.events.items c.grants.segment.events.items c.serve.new.segment.events.items c.requires.going on i.works e.works in
     record {
       spare = omega (arith, i.spare, e.spare);
@@ -64,6 +65,6 @@ grants-preserved g c =
           all_further {End = End} c.args.board.now c.args.segment.now.bus c.grants.segment.bus c.serve.new.segment.bus c.args.segment.now.ends.items c.grants.segment.ends.items c.serve.new.segment.ends.items c.grants.lines (cleared c.grants.lines c.in-Some.line) c.in-Some.line i.works.shape
           (λ n below apart. cleared_other c.grants.lines c.in-Some.line n low below apart)
           (i.quiet (omega (arith, i.works.grows, e.works.grows, same)) on) (e.quiet (omega (arith, i.works.grows, e.works.grows, same)) still);
-      works = works_within {End = End} E.had E.sent E.got E.kept E.paired c.args.board.now (152 + most_at c.in-Some.line) 152 (seen c.args.segment.now.bus c.args.segment.now.stamp c.args.segment.now.stopped) (seen c.serve.new.segment.bus c.serve.new.segment.stamp c.serve.new.segment.stopped)
+      works = works_within {End = End} E.had E.sent E.got E.kept E.paired c.args.board.now (most_served + most_at c.in-Some.line) most_served (seen c.args.segment.now.bus c.args.segment.now.stamp c.args.segment.now.stopped) (seen c.serve.new.segment.bus c.serve.new.segment.stamp c.serve.new.segment.stopped)
           c.args.segment.now.ends.items c.serve.new.segment.ends.items c.args.segment.now.events.items c.serve.new.segment.events.items (omega (arith, bound)) both;
     }

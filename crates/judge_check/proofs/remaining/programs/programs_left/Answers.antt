@@ -1,6 +1,6 @@
 use Rattle.std.proofs.Common.{◌≡◌, ◌<◌, length, get_or, arith}
 use Rattle.list_facts.specs.Lists.{total}
-use Rattle.board_model.proofs.claims.FewLemmas.{few_masters_before, master_more}
+use Rattle.board_model.proofs.FewLemmas.{few_masters_before, master_more}
 use Rattle.board_model.specs.declared.agents.Master.{Master}
 use Rattle.board_model.specs.Ways.{cost_of}
 use Rattle.judge_lanes.proofs.SumLemmas.{total_item}
