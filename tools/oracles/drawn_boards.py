@@ -124,7 +124,8 @@ class Small:
 
     def poll(self, word, mask, value):
         space, address = word
-        return f"{'iopoll' if space == 'io' else 'poll'} {long_text(address)} {mask:08x} {value:08x} {self.rng.randint(1, 9)}"
+        keyword = ("iopoll" if space == "io" else "poll") + self.rng.choice(["", "", "", "", "not"])
+        return f"{keyword} {long_text(address)} {mask:08x} {value:08x} {self.rng.randint(1, 9)}"
 
     def register(self):
         bus, device = self.rng.choice(self.registers)

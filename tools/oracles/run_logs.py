@@ -9,7 +9,7 @@ for it (status 5), as where targets cut bursts into more pieces than a bridge ho
 """
 import re
 
-READS = {"poll": "mr", "iopoll": "ior"}
+READS = {"poll": "mr", "pollnot": "mr", "iopoll": "ior", "iopollnot": "ior"}
 ENDS = ("land", "read", "accept", "take", "tabort", "nobody")
 DELAYED_WRITES = ("iow", "cfw")
 POSTED = ("mw", "mwi")

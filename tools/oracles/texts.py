@@ -10,7 +10,7 @@ import limits  # noqa: E402
 
 READS = ("mr", "mrl", "mrm", "ior", "cfr")
 WRITES = ("mw", "mwi", "iow", "cfw")
-POLLS = ("poll", "iopoll")
+POLLS = ("poll", "iopoll", "pollnot", "iopollnot")
 
 
 def long_of(word):
@@ -43,13 +43,18 @@ class Op:
             data = words[2:]
         if self.is_poll:
             self.mask, self.wanted, self.tries = int(data[0], 16), int(data[1], 16), int(data[2])
+            self.differs = self.kind in ("pollnot", "iopollnot")
         elif self.is_write:
             self.phases = [phase_of(word) for word in data]
         self.is_posted = self.kind in ("mw", "mwi")
 
+    def is_met_by(self, value):
+        """Whether a poll waits for this value."""
+        return (value & self.mask == self.wanted) != self.differs
+
     def request(self):
         """What is the same of two delayed requests that a lane takes for one."""
-        command = {"poll": "mr", "mrl": "mr", "mrm": "mr", "iopoll": "ior"}.get(self.kind, self.kind)
+        command = {"poll": "mr", "pollnot": "mr", "mrl": "mr", "mrm": "mr", "iopoll": "ior", "iopollnot": "ior"}.get(self.kind, self.kind)
         place = (self.bus, self.device) if self.space == "cfg" else ()
         return command, place, self.address, tuple(self.phases)
 

@@ -23,7 +23,7 @@ op_tries (Read command address) formed = record { from = lit≤ tt; to = lit≤ 
 op_tries (Write command address phases) formed = record { from = lit≤ tt; to = lit≤ tt }
 op_tries (CfgRead bus device register) formed = record { from = lit≤ tt; to = lit≤ tt }
 op_tries (CfgWrite bus device register phase) formed = record { from = lit≤ tt; to = lit≤ tt }
-op_tries (Poll space address mask value tries) formed = Within-parts 1 most_tries tries (and_parts _ _ formed).1
+op_tries (Poll space address want tries) formed = Within-parts 1 most_tries tries (and_parts _ _ formed).1
 
 one_phase : (n : ℕ) → n ≡ 1 → IsWithin 1 most_dwords n
 one_phase n one = record { from = omega (arith, one); to = omega (arith, one) }
@@ -40,7 +40,7 @@ op_phases (Read command address) formed = record { from = lit≤ tt; to = lit≤
 op_phases (Write command address phases) formed = write_phases address phases (write_space command) formed
 op_phases (CfgRead bus device register) formed = record { from = lit≤ tt; to = lit≤ tt }
 op_phases (CfgWrite bus device register phase) formed = record { from = lit≤ tt; to = lit≤ tt }
-op_phases (Poll space address mask value tries) formed = record { from = lit≤ tt; to = lit≤ tt }
+op_phases (Poll space address want tries) formed = record { from = lit≤ tt; to = lit≤ tt }
 
 -- the operation of a name stands in the program of its master, and the try is one of its tries
 pub record IsThere (board : Board) (o : OpId) (op : Op) : Type 0 where

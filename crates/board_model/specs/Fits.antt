@@ -8,6 +8,7 @@ use Rattle.board_model.specs.declared.agents.Range.{Range}
 use Rattle.board_model.specs.declared.agents.Opening.{Opening}
 use Rattle.board_model.specs.declared.agents.Target.{Target}
 use Rattle.board_model.specs.declared.agents.Master.{Master}
+use Rattle.board_model.specs.declared.op.Want.{Want}
 use Rattle.board_model.specs.declared.op.Op.{Op}
 use Rattle.board_model.specs.declared.op.Op.TheVariants.{Read, Write, CfgRead, CfgWrite, Poll}
 use Rattle.board_model.specs.declared.board.Planned.{Planned}
@@ -47,13 +48,17 @@ PlannedFits planned = planned.bus < 2 ^ 8
 abbrev pub PhaseFits : Phase → Type 0
 PhaseFits phase = phase.value < 2 ^ 32
 
+-- both numbers of what a poll waits for are dwords
+abbrev pub WantFits : Want → Type 0
+WantFits want = (want.mask < 2 ^ 32) × (want.wanted < 2 ^ 32)
+
 -- an operation: addresses of 64 bits, dwords, and buses that are bytes
 abbrev pub OpFits : Op → Type 0
 OpFits (Read command address) = address < 2 ^ 64
 OpFits (Write command address phases) = (address < 2 ^ 64) × AllByRecursion PhaseFits phases
 OpFits (CfgRead bus device register) = bus < 2 ^ 8
 OpFits (CfgWrite bus device register phase) = (bus < 2 ^ 8) × PhaseFits phase
-OpFits (Poll space address mask value tries) = (address < 2 ^ 64) × (mask < 2 ^ 32) × (value < 2 ^ 32)
+OpFits (Poll space address want tries) = (address < 2 ^ 64) × WantFits want
 
 -- a target with all its details
 pub record DetailsFit (target : Target) : Type 0 where

@@ -1,5 +1,6 @@
 pub mod Limits
 pub mod Names
+pub mod Wants
 pub mod Requests
 pub mod Claims
 pub mod Ways

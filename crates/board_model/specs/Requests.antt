@@ -21,7 +21,7 @@ tries_of (Read command address) = 1
 tries_of (Write command address phases) = 1
 tries_of (CfgRead bus device register) = 1
 tries_of (CfgWrite bus device register phase) = 1
-tries_of (Poll space address mask value tries) = tries
+tries_of (Poll space address want tries) = tries
 
 -- what a name of an operation names, where its master, its index and its try are there
 abbrev pub op_of : Board → OpId → Option Op
@@ -52,7 +52,7 @@ command_of (Read command address) = plain_of command
 command_of (Write command address phases) = plain_of command
 command_of (CfgRead bus device register) = ConfigurationRead
 command_of (CfgWrite bus device register phase) = ConfigurationWrite
-command_of (Poll space address mask value tries) = read_in space
+command_of (Poll space address want tries) = read_in space
 
 -- its address as driven on bus `on`
 abbrev pub address_on : Op → ℕ → ℕ
@@ -60,7 +60,7 @@ address_on (Read command address) on = address
 address_on (Write command address phases) on = address
 address_on (CfgRead bus device register) on = configuration_address on bus device register
 address_on (CfgWrite bus device register phase) on = configuration_address on bus device register
-address_on (Poll space address mask value tries) on = address
+address_on (Poll space address want tries) on = address
 
 -- its data phases
 abbrev pub phases_of : Op → List Phase
@@ -68,7 +68,7 @@ phases_of (Read command address) = read_phases
 phases_of (Write command address phases) = phases
 phases_of (CfgRead bus device register) = read_phases
 phases_of (CfgWrite bus device register phase) = phase ∷ []
-phases_of (Poll space address mask value tries) = read_phases
+phases_of (Poll space address want tries) = read_phases
 
 -- the request of an operation as driven on bus `on`
 abbrev pub request_on : Op → ℕ → Request

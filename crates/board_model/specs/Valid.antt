@@ -197,7 +197,7 @@ is_header_write board (Write command address phases) = false
 is_header_write board (CfgRead bus device register) = false
 is_header_write board (CfgWrite bus device register phase) =
     list_any (λ (bridge : Bridge). bridge.parent == bus && bridge.device == device) board.bridges
-is_header_write board (Poll space address mask value tries) = false
+is_header_write board (Poll space address want tries) = false
 
 -- V8: some configuration write of a program names the bus and the device of a bridge
 abbrev pub writes_a_header : Board → Bool

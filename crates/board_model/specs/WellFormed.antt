@@ -201,7 +201,7 @@ is_well_formed_op (Read command address) = is_well_formed_read address (read_spa
 is_well_formed_op (Write command address phases) = is_well_formed_write address phases (write_space command)
 is_well_formed_op (CfgRead bus device register) = nat_le device 31 && nat_le register 63
 is_well_formed_op (CfgWrite bus device register phase) = nat_le device 31 && nat_le register 63 && is_well_formed_phase phase
-is_well_formed_op (Poll space address mask value tries) = is_dword_in space address && is_within 1 most_tries tries
+is_well_formed_op (Poll space address want tries) = is_dword_in space address && is_within 1 most_tries tries
 
 -- a program that is not too long
 abbrev pub is_well_formed_master : Master → Bool

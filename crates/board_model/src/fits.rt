@@ -1,9 +1,9 @@
 ghost use Rattle.std.specs.List.{AllByRecursion};
 ghost use Rattle.board_model.specs.Fits.{BridgeFits, TargetFits, MasterFits, RangeFits};
-ghost use Rattle.board_model.specs.Fits.{OpeningFits, OpFits, PhaseFits, PlannedFits};
+ghost use Rattle.board_model.specs.Fits.{OpeningFits, OpFits, WantFits, PhaseFits, PlannedFits};
 ghost use Rattle.board_model.specs.Fits.{DetailsFit, ProgramFits, BoardFits};
 
-use crate::{Board, Bridge, Master, Op, Opening, Planned, Range, Target};
+use crate::{Board, Bridge, Master, Op, Opening, Planned, Range, Target, Want};
 use pci_command::Phase;
 
 /// Each board of the program has names that are names, and numbers as wide as their fields.
@@ -141,15 +141,9 @@ fn op_fits(op: &Op)
             let _bus = *bus;
             phase_fits(phase);
         }
-        Op::Poll {
-            address,
-            mask,
-            value,
-            ..
-        } => {
+        Op::Poll { address, want, .. } => {
             let _address = *address;
-            let _mask = *mask;
-            let _value = *value;
+            want_fits(want);
         }
     }
 }
@@ -166,6 +160,13 @@ fn phase_fits(phase: &Phase)
     ensures { PhaseFits phase.now }
 {
     let _value = phase.value;
+}
+
+fn want_fits(want: &Want)
+    ensures { WantFits want.now }
+{
+    let _mask = want.mask;
+    let _wanted = want.wanted;
 }
 
 fn plans_fit(plans: &[Planned])

@@ -37,7 +37,7 @@ pub use limits::{
     MOST_TRIES, MOST_WAITING, REQUEST_LINES, ROOM_OF_A_TURN, limits_fit,
 };
 pub use name::Name;
-pub use op::Op;
+pub use op::{Op, Want};
 pub use registers::{registers_fit, registers_of};
 pub use requests::{is_posted, op_of, request_of, request_on, tries_of};
 pub use windows::window_holds;

@@ -1,3 +1,6 @@
+ghost use Rattle.std.specs.Prelude.{◌≡◌};
+ghost use Rattle.board_model.specs.Wants.{wants};
+
 use pci_command::{Command, Phase, Phases, Space};
 
 /// An operation of a master's program.
@@ -27,12 +30,29 @@ pub enum Op {
         register: u8,
         phase: Phase,
     },
-    /// Reads again and again, at most `tries` times, until the dword under `mask` is `value`.
+    /// Reads again and again, at most `tries` times, until the dword is as it is wanted.
     Poll {
         space: Space,
         address: u64,
-        mask: u32,
-        value: u32,
+        want: Want,
         tries: u32,
     },
+}
+
+/// What a poll waits for: a dword that is `wanted` under the mask or, where it `differs`, any
+/// other.
+#[derive(Clone, Copy, Debug, PartialEq, Eq, Hash)]
+pub struct Want {
+    pub mask: u32,
+    pub wanted: u32,
+    pub differs: bool,
+}
+
+impl Want {
+    /// Whether it is this value that the poll waits for.
+    pub fn is_met_by(self, value: u32) -> bool
+        ensures { result ≡ wants self value }
+    {
+        (value & self.mask == self.wanted) != self.differs
+    }
 }

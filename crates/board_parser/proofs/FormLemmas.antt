@@ -19,7 +19,7 @@ use Rattle.board_statements.specs.declared.statement.Statement.TheVariants.{NewB
 use Rattle.board_statements.specs.Words.{Reader, ◌>>=◌, ◌>>◌, give, one_word, choice, decimal, decimal_of, fixed, hex, hex_of, name, long, long_of, data_word, data_word_of, header_bytes, header_of}
 use Rattle.board_statements.specs.Bridges.{base_limit, window, depth, abort_mode, bridge_form, header_form}
 use Rattle.board_statements.specs.Targets.{is_wide_in, space_word, space_of_word, target_form, id_form, stall_form, burst_form, range_form, claim_form, abort_form, opening_form}
-use Rattle.board_statements.specs.Masters.{master_form, read_form, data_words, other_words, as_many, burst_words, burst_write_form, port_write_form, register_read_form, register_write_form, poll_form, direction_of_word, planned_form, discard_form, drop_form}
+use Rattle.board_statements.specs.Masters.{master_form, tail_form, read_form, data_words, other_words, as_many, burst_words, burst_write_form, port_write_form, register_read_form, register_write_form, poll_form, direction_of_word, planned_form, discard_form, drop_form}
 use Rattle.board_parser.proofs.ReaderLemmas.{Yields, on-ok, rest-ok, word-ok, give-ok, yields-give, yields-word, yields-choice, yields-optional}
 use Rattle.board_parser.proofs.WordKindLemmas.{part-ok, hex-below, narrow-below, long-below, decimal-within, decimal-most, phase-formed, header-bytes, space-of-target}
 
@@ -276,7 +276,8 @@ pub read-formed : (wide : Bool) (command : Command) → is_space_of (read_space 
 unfolding read_form
 read-formed wide command named words read h =
     let address = on-ok (long (is_wide_in wide (space_of command)) words) _ read h in
-    let is = give-ok _ (address.0.1) read address.1.1 in
+    let tail = on-ok (tail_form (address.0.1)) _ read address.1.1 in
+    let is = give-ok _ (tail.0.1) read tail.1.1 in
     subst IsFormed is
     (word-ok (long_of (is_wide_in wide (space_of command))) (λ n. is_formed_read n (read_space command) ≡ true)
     (read-by wide (read_space command) (space_of command) named) words address.0 address.1.0)
@@ -356,7 +357,8 @@ register_read-formed words read h =
     let bus = on-ok (decimal 0 255 words) _ read h in
     let device = on-ok (decimal 0 31 (bus.0.1)) _ read bus.1.1 in
     let register = on-ok (decimal 0 63 (device.0.1)) _ read device.1.1 in
-    let is = give-ok _ (register.0.1) read register.1.1 in
+    let tail = on-ok (tail_form (register.0.1)) _ read register.1.1 in
+    let is = give-ok _ (tail.0.1) read tail.1.1 in
     subst IsFormed is
     (and_from _ _ (most-read 0 31 (bus.0.1) device.0 device.1.0) (most-read 0 63 (device.0.1) register.0 register.1.0))
 
@@ -372,9 +374,9 @@ register_write-formed words read h =
     (and_from _ _ (and_from _ _ (most-read 0 31 (bus.0.1) device.0 device.1.0) (most-read 0 63 (device.0.1) register.0 register.1.0))
     (phase-read (register.0.1) phase.0 phase.1.0))
 
-pub poll-formed : (wide : Bool) (space : Space) → is_target_space space ≡ true → (words : Words) (read : Statement × Words) → poll_form wide space words ≡ Ok read → IsFormed (read.0)
+pub poll-formed : (wide : Bool) (space : Space) (differs : Bool) → is_target_space space ≡ true → (words : Words) (read : Statement × Words) → poll_form wide space differs words ≡ Ok read → IsFormed (read.0)
 unfolding poll_form
-poll-formed wide space named words read h =
+poll-formed wide space differs named words read h =
     let address = on-ok (long (is_wide_in wide space) words) _ read h in
     let mask = on-ok (hex 8 (address.0.1)) _ read address.1.1 in
     let value = on-ok (hex 8 (mask.0.1)) _ read mask.1.1 in

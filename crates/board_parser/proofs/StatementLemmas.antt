@@ -35,7 +35,7 @@ is_served (WritesBurst command) = is_space_of (write_space command) Mem
 is_served WritesPort = true
 is_served ReadsRegister = true
 is_served WritesRegister = true
-is_served (Polls space) = is_target_space space
+is_served (Polls space differs) = is_target_space space
 is_served Discard = true
 is_served Drop = true
 
@@ -75,11 +75,13 @@ all-served word =
     kept (bytes_eq word (codes "iow")) WritesPort _ refl (
     kept (bytes_eq word (codes "cfr")) ReadsRegister _ refl (
     kept (bytes_eq word (codes "cfw")) WritesRegister _ refl (
-    kept (bytes_eq word (codes "poll")) (Polls Mem) _ refl (
-    kept (bytes_eq word (codes "iopoll")) (Polls Io) _ refl (
+    kept (bytes_eq word (codes "poll")) (Polls Mem false) _ refl (
+    kept (bytes_eq word (codes "iopoll")) (Polls Io false) _ refl (
+    kept (bytes_eq word (codes "pollnot")) (Polls Mem true) _ refl (
+    kept (bytes_eq word (codes "iopollnot")) (Polls Io true) _ refl (
     kept (bytes_eq word (codes "discard")) Discard _ refl (
     kept (bytes_eq word (codes "drop")) Drop _ refl (
-    none_served WrongWord)))))))))))))))))))))))
+    none_served WrongWord)))))))))))))))))))))))))
 
 behind-formed : (wide : Bool) (form : LineForm) → is_served form ≡ true → (words : List (List ℕ)) (read : Statement × List (List ℕ)) → behind_word wide form words ≡ Ok read → is_formed (read.0) ≡ true
 unfolding behind_word
@@ -98,7 +100,7 @@ behind-formed wide (WritesBurst command) served words read h = burst_write-forme
 behind-formed wide WritesPort served words read h = port_write-formed words read h
 behind-formed wide ReadsRegister served words read h = register_read-formed words read h
 behind-formed wide WritesRegister served words read h = register_write-formed words read h
-behind-formed wide (Polls space) served words read h = poll-formed wide space served words read h
+behind-formed wide (Polls space differs) served words read h = poll-formed wide space differs served words read h
 behind-formed wide Discard served words read h = discard-formed words read h
 behind-formed wide Drop served words read h = drop-formed words read h
 

@@ -47,7 +47,7 @@ is_short_op (Read command address) = is_short address
 is_short_op (Write command address phases) = is_short address
 is_short_op (CfgRead bus device register) = true
 is_short_op (CfgWrite bus device register phase) = true
-is_short_op (Poll space address mask value tries) = is_short address
+is_short_op (Poll space address want tries) = is_short address
 
 -- the same of a board
 abbrev pub is_short_board : Board → Bool

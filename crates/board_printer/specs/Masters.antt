@@ -23,8 +23,8 @@ op_line (CfgRead bus device register) =
     command_word ConfigurationRead ∷ decimal bus ∷ decimal device ∷ decimal register ∷ []
 op_line (CfgWrite bus device register phase) =
     command_word ConfigurationWrite ∷ decimal bus ∷ decimal device ∷ decimal register ∷ phase_text phase ∷ []
-op_line (Poll space address mask value tries) =
-    poll_word space ∷ address_text address ∷ word_text mask ∷ word_text value ∷ decimal tries ∷ []
+op_line (Poll space address want tries) =
+    poll_word space want.differs ∷ address_text address ∷ word_text want.mask ∷ word_text want.wanted ∷ decimal tries ∷ []
 
 -- `master NAME on B`
 abbrev pub master_line : Master → Line

@@ -1,5 +1,5 @@
 -- The words for address spaces, commands and directions.
-use Rattle.std.specs.Prelude.{ℕ, Bool, List, codes, if◌then◌else◌}
+use Rattle.std.specs.Prelude.{ℕ, Bool, true, false, List, codes, if◌then◌else◌}
 use Rattle.pci_command.specs.declared.command.Space.{Space}
 use Rattle.pci_command.specs.declared.command.Space.TheVariants.{Mem, Io, Cfg}
 use Rattle.pci_command.specs.declared.command.Command.{Command}
@@ -11,11 +11,14 @@ space_word Mem = codes "mem"
 space_word Io = codes "io"
 space_word Cfg = codes "cfg"
 
--- of a poll (none reads configuration space)
-abbrev pub poll_word : Space → List ℕ
-poll_word Mem = codes "poll"
-poll_word Io = codes "iopoll"
-poll_word Cfg = codes "cfgpoll"
+-- of a poll for a value, or for any that differs (none reads configuration space)
+abbrev pub poll_word : Space → Bool → List ℕ
+poll_word Mem false = codes "poll"
+poll_word Mem true = codes "pollnot"
+poll_word Io false = codes "iopoll"
+poll_word Io true = codes "iopollnot"
+poll_word Cfg false = codes "cfgpoll"
+poll_word Cfg true = codes "cfgpollnot"
 
 -- of an operation, by its command
 abbrev pub command_word : Command → List ℕ

@@ -83,16 +83,15 @@ fn print_op(text: &mut String, op: &Op) -> Result<(), AllocError>
         Op::Poll {
             space,
             address,
-            mask,
-            value,
+            want,
             tries,
         } => writeln!(
             text,
             "{} {} {} {} {tries}",
-            poll_word(*space),
+            poll_word(*space, want.differs),
             Address(*address),
-            HexWord(*mask),
-            HexWord(*value)
+            HexWord(want.mask),
+            HexWord(want.wanted)
         ),
     }
 }

@@ -14,13 +14,17 @@ pub fn space_word(space: Space) -> &'static str
     }
 }
 
-pub(crate) fn poll_word(space: Space) -> &'static str
-    ensures { result.now ≡ poll_word space }
+/// The word of a poll of a space for a value, or for any that differs.
+pub(crate) fn poll_word(space: Space, differs: bool) -> &'static str
+    ensures { result.now ≡ poll_word space differs }
 {
-    match space {
-        Space::Mem => "poll",
-        Space::Io => "iopoll",
-        Space::Cfg => "cfgpoll",
+    match (space, differs) {
+        (Space::Mem, false) => "poll",
+        (Space::Mem, true) => "pollnot",
+        (Space::Io, false) => "iopoll",
+        (Space::Io, true) => "iopollnot",
+        (Space::Cfg, false) => "cfgpoll",
+        (Space::Cfg, true) => "cfgpollnot",
     }
 }
 

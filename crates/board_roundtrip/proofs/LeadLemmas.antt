@@ -1,12 +1,12 @@
 -- What printed lines lead to: reading them in a draft of one kind gives a draft of another.
-use Rattle.std.proofs.Common.{◌≡◌, ℕ, ◌+◌, Bool, true, false, cond, ltb, not, List, [], ◌∷◌, ◌++◌, append_assoc, length, map, Option, Some, None, Result, Ok, refl, sym, ap, subst, ◌∙◌, arith}
-use Rattle.std.specs.List.{list_all, flat_map}
-use Rattle.std.proofs.lemmas.Bool.{lt-ltb, and_parts}
-use Rattle.std.proofs.lemmas.Bool.Decides.{nat_tests}
+use Rattle.std.proofs.Common.{◌≡◌, ℕ, ◌+◌, Bool, true, false, cond, ltb, List, [], ◌∷◌, ◌++◌, append_assoc, length, map, Option, Some, None, Result, Ok, refl, sym, ap, subst, ◌∙◌, arith}
+use Rattle.std.specs.List.{flat_map}
+use Rattle.std.proofs.lemmas.Bool.{lt-ltb}
 use Rattle.std.proofs.lemmas.List.{append-nil}
 use Rattle.std.proofs.lemmas.List.Concat.{flat_map-append}
-use Rattle.board_text.specs.Lines.{is_newline, is_allowed, line_fault, lines_of}
+use Rattle.board_text.specs.Lines.{is_line_of, line_fault, lines_of}
 use Rattle.board_text.specs.Tokens.{words_of}
+use Rattle.board_text.proofs.AllowedLemmas.{no_newline}
 use Rattle.board_printer.specs.Lines.{Line, line_text, text_of}
 use Rattle.board_roundtrip.specs.words.Printed.{joined}
 use Rattle.text_faults.specs.declared.board_line.LineFault.{LineFault}
@@ -92,14 +92,6 @@ unfolding statement_of statement_form
 has_words wide [] statement h = absurd (cc)
 has_words wide (word ∷ words) statement h = lt-ltb _ _ (omega arith)
 
--- a line that a text may have has no newline
-no_newline : (bytes : List ℕ) → list_all is_allowed bytes ≡ true → list_all (λ byte. not (is_newline byte)) bytes ≡ true
-no_newline [] all = refl
-no_newline (byte ∷ bytes) all =
-    let parts = and_parts (is_allowed byte) (list_all is_allowed bytes) all in
-    let here : is_newline byte ≡ false = grind (arith, nat_tests, parts.0) in
-    rw here (no_newline bytes parts.1)
-
 fault_cases : (long allowed : Bool) (one other : LineFault) → cond long (Some one) (cond allowed None (Some other)) ≡ None → allowed ≡ true
 fault_cases true allowed one other h = absurd (cc)
 fault_cases false true one other h = refl
@@ -107,7 +99,7 @@ fault_cases false false one other h = absurd (cc)
 
 first_line_of_text : (line : Line) (text : List ℕ) → line_fault (joined line) ≡ None → lines_of (line_text line ++ text) ≡ joined line ∷ lines_of text
 first_line_of_text line text none =
-    let plain = no_newline (joined line) (fault_cases (ltb 256 (length (joined line))) (list_all is_allowed (joined line)) TooLong BadByte none) in
+    let plain = no_newline (joined line) (fault_cases (ltb 256 (length (joined line))) (is_line_of (joined line)) TooLong BadByte none) in
     let whole : line_text line ++ text ≡ joined line ++ 10 ∷ text = ap (λ (t : List ℕ). t ++ text) (line_is line) ∙ append_assoc (joined line) (10 ∷ []) text in
     let split = split_line (joined line) text plain in
     let ends = ends_behind (joined line) text in

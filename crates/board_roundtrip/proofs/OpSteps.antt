@@ -30,7 +30,7 @@ aligned (Read command address) formed = read_by address (read_space command) for
 aligned (Write command address phases) formed = write_by address phases (write_space command) formed
 aligned (CfgRead bus device register) formed = refl
 aligned (CfgWrite bus device register phase) formed = refl
-aligned (Poll space address mask value tries) formed = aligned_by space address ((and_parts (is_dword_in space address) (is_within 1 most_tries tries) formed).0)
+aligned (Poll space address want tries) formed = aligned_by space address ((and_parts (is_dword_in space address) (is_within 1 most_tries tries) formed).0)
 
 burst_by : (space : Space) (address phases : ℕ) → (address % 4 == 0) ≡ true → is_burst_in space address phases ≡ true → nat_lt 64 (address % 64 + 4 * phases) ≡ false
 burst_by Mem address phases whole formed = le-ltb _ _ (leb-true _ _ ((and_parts (is_within 1 most_dwords phases) (nat_le (address % 64 + 4 * phases) 64) formed).1))
@@ -51,7 +51,7 @@ within (Read command address) formed = refl
 within (Write command address phases) formed = block_by address phases (write_space command) formed
 within (CfgRead bus device register) formed = refl
 within (CfgWrite bus device register phase) formed = refl
-within (Poll space address mask value tries) formed = refl
+within (Poll space address want tries) formed = refl
 
 pub op_adds : (before : ℕ) (op : Op) (master : Master) → is_well_formed_op op ≡ true → length master.ops + 1 ≤ most_ops → before + tries_of op ≤ most_tries
     → add_op before op false master ≡ Ok (record master { ops = master.ops ++ op ∷ [] })

@@ -1,5 +1,5 @@
 -- The kinds of lines behind the first one, by their first words.
-use Rattle.std.specs.Prelude.{ℕ, List, Result, Ok, Err, codes, if◌then◌else◌}
+use Rattle.std.specs.Prelude.{ℕ, true, false, List, Result, Ok, Err, codes, if◌then◌else◌}
 use Rattle.std.specs.Str.{bytes_eq}
 use Rattle.pci_command.specs.declared.command.Command.TheVariants.{IoRead, MemRead, MemWrite, MemReadMultiple, MemReadLine, MemWriteInvalidate}
 use Rattle.pci_command.specs.declared.command.Space.TheVariants.{Mem, Io}
@@ -20,8 +20,10 @@ traffic_form_of word =
     else if bytes_eq word (codes "iow") then Ok WritesPort
     else if bytes_eq word (codes "cfr") then Ok ReadsRegister
     else if bytes_eq word (codes "cfw") then Ok WritesRegister
-    else if bytes_eq word (codes "poll") then Ok (Polls Mem)
-    else if bytes_eq word (codes "iopoll") then Ok (Polls Io)
+    else if bytes_eq word (codes "poll") then Ok (Polls Mem false)
+    else if bytes_eq word (codes "iopoll") then Ok (Polls Io false)
+    else if bytes_eq word (codes "pollnot") then Ok (Polls Mem true)
+    else if bytes_eq word (codes "iopollnot") then Ok (Polls Io true)
     else if bytes_eq word (codes "discard") then Ok Discard
     else if bytes_eq word (codes "drop") then Ok Drop
     else Err WrongWord

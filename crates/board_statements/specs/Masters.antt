@@ -8,12 +8,13 @@ use Rattle.pci_command.specs.declared.phases.Phase.{Phase}
 use Rattle.pci_command.specs.Command.{space_of}
 use Rattle.board_model.specs.Limits.{most_dwords, most_tries}
 use Rattle.board_model.specs.declared.op.Op.TheVariants.{Read, Write, CfgRead, CfgWrite, Poll}
+use Rattle.board_model.specs.declared.op.Want.{Want}
 use Rattle.board_model.specs.declared.board.Planned.{Planned}
 use Rattle.text_faults.specs.declared.board_line.LineFault.{LineFault}
 use Rattle.text_faults.specs.declared.board_line.LineFault.TheVariants.{WrongWord}
 use Rattle.board_statements.specs.declared.statement.Statement.{Statement}
 use Rattle.board_statements.specs.declared.statement.Statement.TheVariants.{NewMaster, Does, Discards, Drops}
-use Rattle.board_statements.specs.Words.{◌>>=◌, ◌>>◌, Reader, give, one_word, and_part, with_rest, hex, decimal, fixed, name, long, data_word, data_word_of}
+use Rattle.board_statements.specs.Words.{◌>>=◌, ◌>>◌, Reader, give, choice, optional, one_word, and_part, with_rest, hex, decimal, fixed, name, long, data_word, data_word_of}
 use Rattle.board_statements.specs.Targets.{is_wide_in}
 
 -- `master NAME on B`
@@ -24,10 +25,21 @@ master_form = do
   bus ← decimal 0 255
   give (NewMaster named bus)
 
--- ADDR of a read in memory or in I/O space
+-- HEX of what a read should return, which is no part of the board
+abbrev pub expected_form : Reader (Unit {0})
+expected_form = do
+  hex 8
+  give tt
+
+-- behind a read: `is HEX`, or `any`, or nothing
+abbrev pub tail_form : Reader (Unit {0})
+tail_form = choice (codes "is") expected_form (optional (codes "any") tt (give tt))
+
+-- ADDR of a read in memory or in I/O space, and its tail
 unfoldable pub read_form : Bool → Command → Reader Statement
 read_form wide command = do
   address ← long (is_wide_in wide (space_of command))
+  tail_form
   give (Does (Read command address) false)
 
 -- each of these words as a data word
@@ -65,12 +77,13 @@ port_write_form = do
   phase ← data_word
   give (Does (Write IoWrite address (phase ∷ [])) false)
 
--- B D R of a read in configuration space
+-- B D R of a read in configuration space, and its tail
 unfoldable pub register_read_form : Reader Statement
 register_read_form = do
   bus ← decimal 0 255
   device ← decimal 0 31
   register ← decimal 0 63
+  tail_form
   give (Does (CfgRead bus device register) false)
 
 -- B D R WORD of a write in configuration space
@@ -82,14 +95,14 @@ register_write_form = do
   phase ← data_word
   give (Does (CfgWrite bus device register phase) false)
 
--- ADDR MASK VALUE TRIES of a poll in memory or in I/O space
-unfoldable pub poll_form : Bool → Space → Reader Statement
-poll_form wide space = do
+-- ADDR MASK VALUE TRIES of a poll in memory or in I/O space, for the value under the mask or for any that differs
+unfoldable pub poll_form : Bool → Space → Bool → Reader Statement
+poll_form wide space differs = do
   address ← long (is_wide_in wide space)
   mask ← hex 8
   value ← hex 8
   tries ← decimal 1 most_tries
-  give (Does (Poll space address mask value tries) false)
+  give (Does (Poll space address (record { mask = mask; wanted = value; differs = differs }) tries) false)
 
 -- `down` or `up`
 unfoldable pub direction_of_word : List ℕ → Result Bool LineFault

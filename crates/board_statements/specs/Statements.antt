@@ -28,7 +28,7 @@ behind_word wide (WritesBurst command) = burst_write_form wide command
 behind_word wide WritesPort = port_write_form
 behind_word wide ReadsRegister = register_read_form
 behind_word wide WritesRegister = register_write_form
-behind_word wide (Polls space) = poll_form wide space
+behind_word wide (Polls space differs) = poll_form wide space differs
 behind_word wide Discard = discard_form
 behind_word wide Drop = drop_form
 

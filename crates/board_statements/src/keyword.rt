@@ -26,7 +26,8 @@ pub enum LineForm {
     WritesPort,
     ReadsRegister,
     WritesRegister,
-    Polls(Space),
+    /// A poll for a value, or for any that differs.
+    Polls { space: Space, differs: bool },
     Discard,
     Drop,
 }
@@ -84,9 +85,13 @@ fn traffic_form_of(word: &[u8]) -> Result<LineForm, LineFault>
     } else if is_word(word, b"cfw") {
         Ok(LineForm::WritesRegister)
     } else if is_word(word, b"poll") {
-        Ok(LineForm::Polls(Space::Mem))
+        Ok(polls(Space::Mem, false))
     } else if is_word(word, b"iopoll") {
-        Ok(LineForm::Polls(Space::Io))
+        Ok(polls(Space::Io, false))
+    } else if is_word(word, b"pollnot") {
+        Ok(polls(Space::Mem, true))
+    } else if is_word(word, b"iopollnot") {
+        Ok(polls(Space::Io, true))
     } else if is_word(word, b"discard") {
         Ok(LineForm::Discard)
     } else if is_word(word, b"drop") {
@@ -94,4 +99,10 @@ fn traffic_form_of(word: &[u8]) -> Result<LineForm, LineFault>
     } else {
         Err(LineFault::WrongWord)
     }
+}
+
+fn polls(space: Space, differs: bool) -> LineForm
+    ensures { result ≡ LineForm.Polls space differs }
+{
+    LineForm::Polls { space, differs }
 }

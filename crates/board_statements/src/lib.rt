@@ -13,5 +13,6 @@ mod words;
 
 pub use kinds::parts;
 pub use lines::{first_line, has_words, statement_of, take_statement};
+pub use masters::read_tail;
 pub use statement::Statement;
 pub use words::{Words, is_word};

@@ -82,7 +82,7 @@ fn behind_word(words: &mut Words, wide: bool, form: LineForm) -> Result<Statemen
         LineForm::WritesPort => masters::port_write(words),
         LineForm::ReadsRegister => masters::register_read(words),
         LineForm::WritesRegister => masters::register_write(words),
-        LineForm::Polls(space) => masters::poll(words, wide, space),
+        LineForm::Polls { space, differs } => masters::poll(words, wide, space, differs),
         LineForm::Discard => masters::discards(words),
         LineForm::Drop => masters::drops(words),
     }

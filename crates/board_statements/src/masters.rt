@@ -1,6 +1,6 @@
 ghost use Rattle.std.specs.Prelude.{◌≡◌, false};
 ghost use Rattle.board_statements.specs.Words.{Gives, one_word};
-ghost use Rattle.board_statements.specs.Masters.{master_form, read_form, burst_words};
+ghost use Rattle.board_statements.specs.Masters.{master_form, tail_form, read_form, burst_words};
 ghost use Rattle.board_statements.specs.Masters.{burst_write_form, port_write_form};
 ghost use Rattle.board_statements.specs.Masters.{register_read_form, register_write_form};
 ghost use Rattle.board_statements.specs.Masters.{poll_form, planned_form, discard_form, drop_form};
@@ -9,7 +9,7 @@ ghost use Rattle.board_statements.specs.Masters.{direction_of_word};
 use crate::Statement;
 use crate::targets::is_wide_in;
 use crate::words::{Words, is_word};
-use board_model::{MOST_DWORDS, MOST_TRIES, Op, Planned};
+use board_model::{MOST_DWORDS, MOST_TRIES, Op, Planned, Want};
 use pci_command::{Command, Phases, Space};
 use text_faults::LineFault;
 
@@ -24,13 +24,27 @@ pub fn master(words: &mut Words) -> Result<Statement, LineFault>
     Ok(Statement::NewMaster { name, bus })
 }
 
-/// A read of one dword: `ADDR`.
+/// A read of one dword: `ADDR`, and its tail.
 #[tactic(auto, unfolding(crate::specs::Masters::read_form))]
 pub fn read(words: &mut Words, wide: bool, command: Command) -> Result<Statement, LineFault>
     ensures { Gives result words.new (read_form wide command words.old) }
 {
     let address = words.long(is_wide_in(wide, command.space()))?;
+    read_tail(words)?;
     Ok(does(Op::Read { command, address }))
+}
+
+/// What may stand behind a read and is no part of the board: `is HEX`, what it should return, or
+/// `any`.
+pub fn read_tail(words: &mut Words) -> Result<(), LineFault>
+    ensures { Gives result words.new (tail_form words.old) }
+{
+    if words.skips(b"is") {
+        let _expected = words.hex()?;
+    } else {
+        let _any = words.skips(b"any");
+    }
+    Ok(())
 }
 
 /// A write in memory: `ADDR WORD..`.
@@ -66,7 +80,7 @@ pub fn port_write(words: &mut Words) -> Result<Statement, LineFault>
     }))
 }
 
-/// A read in configuration space: `B D R`.
+/// A read in configuration space: `B D R`, and its tail.
 #[tactic(auto, unfolding(crate::specs::Masters::register_read_form))]
 pub fn register_read(words: &mut Words) -> Result<Statement, LineFault>
     ensures { Gives result words.new (register_read_form words.old) }
@@ -74,6 +88,7 @@ pub fn register_read(words: &mut Words) -> Result<Statement, LineFault>
     let bus = words.decimal_byte(0, 255)?;
     let device = words.decimal_byte(0, 31)?;
     let register = words.decimal_byte(0, 63)?;
+    read_tail(words)?;
     Ok(does(Op::CfgRead {
         bus,
         device,
@@ -98,20 +113,30 @@ pub fn register_write(words: &mut Words) -> Result<Statement, LineFault>
     }))
 }
 
-/// A poll in memory or in I/O space: `ADDR MASK VALUE TRIES`.
+/// A poll in memory or in I/O space for the value under the mask, or for any that differs:
+/// `ADDR MASK VALUE TRIES`.
 #[tactic(auto, unfolding(crate::specs::Masters::poll_form))]
-pub fn poll(words: &mut Words, wide: bool, space: Space) -> Result<Statement, LineFault>
-    ensures { Gives result words.new (poll_form wide space words.old) }
+pub fn poll(
+    words: &mut Words,
+    wide: bool,
+    space: Space,
+    differs: bool,
+) -> Result<Statement, LineFault>
+    ensures { Gives result words.new (poll_form wide space differs words.old) }
 {
     let address = words.long(is_wide_in(wide, space))?;
     let mask = words.hex()?;
-    let value = words.hex()?;
+    let wanted = words.hex()?;
     let tries = words.decimal(1, MOST_TRIES)?;
+    let want = Want {
+        mask,
+        wanted,
+        differs,
+    };
     Ok(does(Op::Poll {
         space,
         address,
-        mask,
-        value,
+        want,
         tries,
     }))
 }

@@ -1,3 +1,4 @@
+pub mod AllowedLemmas
 pub mod DigitLemmas
 pub mod CutLemmas
 pub mod NextLemmas

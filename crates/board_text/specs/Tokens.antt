@@ -1,6 +1,6 @@
 -- The tokens of a line, as places in the text.
-use Rattle.std.specs.Prelude.{◌≡◌, ℕ, Bool, not, ◌+◌, ◌-◌, ◌<◌, ◌≤◌, List, [], ◌∷◌, length, nat_lt, ◌==◌, ◌||◌, if◌then◌else◌}
-use Rattle.std.specs.List.{slice_split, slice_range, before_first, filter}
+use Rattle.std.specs.Prelude.{◌≡◌, ℕ, Bool, not, ◌+◌, ◌-◌, ◌<◌, ◌≤◌, List, [], ◌∷◌, length, drop, nat_lt, ◌==◌, ◌||◌, if◌then◌else◌}
+use Rattle.std.specs.List.{slice_split, slice_range, before_first, filter, position_or_len}
 use Rattle.board_text.specs.declared.tokens.Token.{Token}
 
 -- a space or a tab
@@ -18,6 +18,10 @@ is_comment byte = byte == 35
 -- a line up to its comment
 abbrev pub uncommented : List ℕ → List ℕ
 uncommented line = before_first is_comment line
+
+-- the comment of a line, from its `#` on
+abbrev pub comment_of : List ℕ → List ℕ
+comment_of line = drop (position_or_len is_comment line) line
 
 -- a token of this many bytes before those that follow, unless it is empty
 abbrev pub with_token : ℕ → ℕ → List Token → List Token

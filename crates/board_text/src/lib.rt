@@ -7,6 +7,6 @@ mod tokens;
 mod words;
 
 pub use numbers::{NumberFault, decimal, hex, value_of_digit};
-pub use reader::{check_line, next_line};
+pub use reader::{check_line, is_allowed, is_allowed_comment, next_line};
 pub use tokens::{Token, tokens_of};
 pub use words::{length_before_comment, next_word};

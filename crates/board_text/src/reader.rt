@@ -1,8 +1,10 @@
 ghost use Rattle.std.specs.Prelude.{◌≡◌, ◌+◌, ◌<◌, ◌≤◌, ◌^◌, ◌↔◌, ◌∷◌, length, drop, slice_range};
 ghost use Rattle.std.specs.Prelude.{Some, None, IfSome, IsNone, MatchResult};
 ghost use Rattle.std.specs.List.{position_or_len, list_all};
-ghost use Rattle.board_text.specs.Lines.{is_newline, is_allowed, lines_of, line_fault};
+ghost use Rattle.board_text.specs.Lines.{is_newline, is_allowed, is_allowed_comment};
+ghost use Rattle.board_text.specs.Lines.{is_line_of, lines_of, line_fault};
 
+use crate::words::length_before_comment;
 use text_faults::LineFault;
 
 /// The line that begins at `at`, without its newline, and the place behind its newline, at which
@@ -26,8 +28,9 @@ pub fn next_line(bytes: &[u8], at: usize) -> Option<(&[u8], usize)>
     Some((line, at + size + 1))
 }
 
-/// Refuses a line longer than 256 bytes, and else one with a byte other than the tab and 20 to 7e:
-/// it is `TooLong`, or has a `BadByte`. The line is given without its newline.
+/// Refuses a line longer than 256 bytes, and else one with a byte other than the tab and 20 to 7e,
+/// or in its comment 80 to ff: it is `TooLong`, or has a `BadByte`. The line is given without its
+/// newline.
 pub fn check_line(line: &[u8]) -> Result<(), LineFault>
     ensures { MatchResult result (λ _. line_fault line.now ≡ None)
         (λ fault. line_fault line.now ≡ Some fault) }
@@ -51,9 +54,43 @@ fn length_of_line(text: &[u8]) -> usize
         .unwrap_or(text.len())
 }
 
+#[tactic(auto, using(crate::proofs::AllowedLemmas::allowed_line))]
 fn has_only_allowed(line: &[u8]) -> bool
+    ensures { result ≡ is_line_of line.now }
+{
+    // most lines have such bytes alone, so their comment is not looked for
+    are_allowed(line) || parts_are_allowed(line)
+}
+
+fn are_allowed(line: &[u8]) -> bool
     ensures { result ≡ list_all is_allowed line.now }
 {
-    line.iter()
-        .all(|byte| *byte == b'\t' || (b' '..=b'~').contains(byte))
+    line.iter().all(|byte| is_allowed(*byte))
+}
+
+fn parts_are_allowed(line: &[u8]) -> bool
+    ensures { result ≡ is_line_of line.now }
+{
+    let (text, comment) = line.split_at(length_before_comment(line));
+    are_allowed(text) && are_allowed_in_comment(comment)
+}
+
+fn are_allowed_in_comment(comment: &[u8]) -> bool
+    ensures { result ≡ list_all is_allowed_comment comment.now }
+{
+    comment.iter().all(|byte| is_allowed_comment(*byte))
+}
+
+/// Whether a byte may stand in a line before its comment.
+pub fn is_allowed(byte: u8) -> bool
+    ensures { result ≡ is_allowed byte }
+{
+    byte == b'\t' || (b' '..=b'~').contains(&byte)
+}
+
+/// Whether it may stand in a comment.
+pub fn is_allowed_comment(byte: u8) -> bool
+    ensures { result ≡ is_allowed_comment byte }
+{
+    is_allowed(byte) || byte >= 0x80
 }

@@ -95,31 +95,31 @@ early_core true false rest = refl
 early_core false true rest = refl
 early_core false false rest = refl
 
-early_one : (awaited : Awaited) (w : WordWrite) (ws : List WordWrite) → list_any (is_met_by awaited.mask awaited.wanted) (early_values (w ∷ ws)) ≡ cond (not w.last) (raises_it awaited w || list_any (is_met_by awaited.mask awaited.wanted) (early_values ws)) (list_any (is_met_by awaited.mask awaited.wanted) (early_values ws))
+early_one : (awaited : Awaited) (w : WordWrite) (ws : List WordWrite) → list_any (is_met_by awaited.want) (early_values (w ∷ ws)) ≡ cond (not w.last) (raises_it awaited w || list_any (is_met_by awaited.want) (early_values ws)) (list_any (is_met_by awaited.want) (early_values ws))
 early_one awaited w ws =
-    let M : ℕ → Bool = is_met_by awaited.mask awaited.wanted in
+    let M : ℕ → Bool = is_met_by awaited.want in
     let rest : List WordWrite = filter (λ v. not v.last) ws in
     let P : Bool → Type 0 = λ b. list_any M (map value_in (cond b (w ∷ rest) rest)) ≡ cond b (raises_it awaited w || list_any M (map value_in rest)) (list_any M (map value_in rest)) in
     elim (not w.last) as P [ true ↦ refl | false ↦ refl ]
 
-clean_in_two : (awaited : Awaited) (ws : List WordWrite) → list_all (is_clean_write awaited) ws ≡ (list_all (λ (w : WordWrite). is_whole awaited.mask w.phase) ws && not (list_any (is_met_by awaited.mask awaited.wanted) (early_values ws)))
+clean_in_two : (awaited : Awaited) (ws : List WordWrite) → list_all (is_clean_write awaited) ws ≡ (list_all (λ (w : WordWrite). is_whole awaited.want.mask w.phase) ws && not (list_any (is_met_by awaited.want) (early_values ws)))
 clean_in_two awaited [] = refl
 clean_in_two awaited (w ∷ ws) =
-    let wholes : Bool = list_all (λ (v : WordWrite). is_whole awaited.mask v.phase) ws in
-    let rest : Bool = list_any (is_met_by awaited.mask awaited.wanted) (early_values ws) in
+    let wholes : Bool = list_all (λ (v : WordWrite). is_whole awaited.want.mask v.phase) ws in
+    let rest : Bool = list_any (is_met_by awaited.want) (early_values ws) in
     ap (λ b. is_clean_write awaited w && b) (clean_in_two awaited ws)
-    ∙ two_core (is_whole awaited.mask w.phase) (raises_it awaited w) w.last wholes (not rest)
-    ∙ ap (λ b. (is_whole awaited.mask w.phase && wholes) && b) (early_core (raises_it awaited w) w.last rest ∙ ap not (sym (early_one awaited w ws)))
+    ∙ two_core (is_whole awaited.want.mask w.phase) (raises_it awaited w) w.last wholes (not rest)
+    ∙ ap (λ b. (is_whole awaited.want.mask w.phase && wholes) && b) (early_core (raises_it awaited w) w.last rest ∙ ap not (sym (early_one awaited w ws)))
 
-pub clean_if : (awaited : Awaited) (writes those : List WordWrite) (early : List ℕ) (whole some : Bool) → those ≡ writes → whole ≡ list_all (λ (w : WordWrite). is_whole awaited.mask w.phase) those → early ≡ early_values those → some ≡ list_any (is_met_by awaited.mask awaited.wanted) early
+pub clean_if : (awaited : Awaited) (writes those : List WordWrite) (early : List ℕ) (whole some : Bool) → those ≡ writes → whole ≡ list_all (λ (w : WordWrite). is_whole awaited.want.mask w.phase) those → early ≡ early_values those → some ≡ list_any (is_met_by awaited.want) early
     → whole ≡ true → not some ≡ list_all (is_clean_write awaited) writes
 clean_if awaited writes those early whole some are whole_is early_is some_is all =
     ap (λ b. b && not some) (sym all ∙ whole_is)
-    ∙ ap (λ b. list_all (λ (w : WordWrite). is_whole awaited.mask w.phase) those && not b) (some_is ∙ ap (list_any (is_met_by awaited.mask awaited.wanted)) early_is)
+    ∙ ap (λ b. list_all (λ (w : WordWrite). is_whole awaited.want.mask w.phase) those && not b) (some_is ∙ ap (list_any (is_met_by awaited.want)) early_is)
     ∙ sym (clean_in_two awaited those) ∙ ap (list_all (is_clean_write awaited)) are
 
 -- or not each writes all that the mask looks at
-pub clean_unless : (awaited : Awaited) (writes those : List WordWrite) (whole : Bool) → those ≡ writes → whole ≡ list_all (λ (w : WordWrite). is_whole awaited.mask w.phase) those → whole ≡ false → whole ≡ list_all (is_clean_write awaited) writes
+pub clean_unless : (awaited : Awaited) (writes those : List WordWrite) (whole : Bool) → those ≡ writes → whole ≡ list_all (λ (w : WordWrite). is_whole awaited.want.mask w.phase) those → whole ≡ false → whole ≡ list_all (is_clean_write awaited) writes
 clean_unless awaited writes those whole are whole_is not_all =
-    not_all ∙ ap (λ b. b && not (list_any (is_met_by awaited.mask awaited.wanted) (early_values those))) (sym not_all ∙ whole_is)
+    not_all ∙ ap (λ b. b && not (list_any (is_met_by awaited.want) (early_values those))) (sym not_all ∙ whole_is)
     ∙ sym (clean_in_two awaited those) ∙ ap (list_all (is_clean_write awaited)) are

@@ -91,16 +91,16 @@ module _ (board : Board) (awaited : Awaited) where
 
   raises_so : (w : WordWrite) → IsWordWrite board word w → raises_it awaited w ≡ raises board wish w.op
   raises_so w is =
-      sym (or_false (raises_it awaited w)) ∙ sym (ap (list_any (brings_met awaited.mask awaited.wanted)) is.brings)
+      sym (or_false (raises_it awaited w)) ∙ sym (ap (list_any (brings_met awaited.want)) is.brings)
 
   clean_so : (w : WordWrite) → IsWordWrite board word w → is_clean_write awaited w ≡ is_clean board wish w.op
   clean_so w is =
-      let whole : is_whole awaited.mask w.phase ≡ list_all (is_whole awaited.mask) (phases_to board word w.op) = sym (and_true (is_whole awaited.mask w.phase)) ∙ sym (ap (list_all (is_whole awaited.mask)) is.brings) in
+      let whole : is_whole awaited.want.mask w.phase ≡ list_all (is_whole awaited.want.mask) (phases_to board word w.op) = sym (and_true (is_whole awaited.want.mask w.phase)) ∙ sym (ap (list_all (is_whole awaited.want.mask)) is.brings) in
       let met = raises_so w is in
       let last = is.last in
       ap (λ b. b && (not (raises_it awaited w) || w.last)) whole
-      ∙ ap (λ b. list_all (is_whole awaited.mask) (phases_to board word w.op) && (not b || w.last)) met
-      ∙ ap (λ b. list_all (is_whole awaited.mask) (phases_to board word w.op) && (not (raises board wish w.op) || b)) last
+      ∙ ap (λ b. list_all (is_whole awaited.want.mask) (phases_to board word w.op) && (not b || w.last)) met
+      ∙ ap (λ b. list_all (is_whole awaited.want.mask) (phases_to board word w.op) && (not (raises board wish w.op) || b)) last
 
   pub firm_so : (writes : List WordWrite) → AreWrites board word (writes_of board word) writes → (is_plain awaited.word.space && list_all (is_clean_write awaited) writes) ≡ is_firm board wish
   firm_so writes are =
@@ -111,7 +111,7 @@ module _ (board : Board) (awaited : Awaited) where
 
 -- all that is kept of one
 pub poll_is : (board : Board) (p : OpId) (awaited : Awaited) (opens firm : Bool) (writes : List WordWrite) → wish_of board p ≡ Some (wish_for awaited) → AreWrites board (dword awaited.word) (writes_of board (dword awaited.word)) writes
-    → opens ≡ is_met_by awaited.mask awaited.wanted (opens_as board (dword awaited.word)) → firm ≡ (is_plain awaited.word.space && list_all (is_clean_write awaited) writes)
+    → opens ≡ is_met_by awaited.want (opens_as board (dword awaited.word)) → firm ≡ (is_plain awaited.word.space && list_all (is_clean_write awaited) writes)
     → IsPoll board p (record { awaited = awaited; opens = opens; firm = firm })
 poll_is board p awaited opens firm writes waits are opens_is firm_is =
     record {
@@ -171,7 +171,7 @@ module _ (board : Board) (rows : List ProgramRows) (keeps : KeepsPolls board row
 
     pub told_so : told_in rows p writes poll ≡ is_told board table p (wish_of board p)
     told_so =
-        let opens : Bool = is_met_by poll.awaited.mask poll.awaited.wanted (opens_as board of_it) in
+        let opens : Bool = is_met_by poll.awaited.want (opens_as board of_it) in
         ap (λ t. t && (not poll.opens || any_before rows p writes)) is.firm
         ∙ ap (λ t. is_firm board waits_for && (not t || any_before rows p writes)) is.opens
         ∙ ap (λ t. is_firm board waits_for && (not opens || t)) (any_before_so of_it writes are p)

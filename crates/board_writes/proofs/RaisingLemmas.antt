@@ -5,7 +5,10 @@ use Rattle.std.specs.Map.{lookup}
 use Rattle.std.proofs.Math.Seq.{drop-cons}
 use Rattle.std.proofs.lemmas.Bool.{and_parts}
 use Rattle.std.proofs.lemmas.List.{drop_all}
+use mathlib.Core.Bool.{beq}
 use Rattle.pci_command.specs.declared.op_id.OpId.{OpId}
+use Rattle.history_model.specs.World.{same_direction}
+use Rattle.board_model.specs.declared.op.Want.{Want}
 use Rattle.board_model.specs.declared.word.Word.{Word}
 use Rattle.audit_clocks.specs.Tables.{same_word}
 use Rattle.audit_clocks.proofs.TableLemmas.{derived_word, derived_word_same, same_word_true, lookup_agree}
@@ -16,7 +19,7 @@ use Rattle.board_writes.specs.Writes.{writes_at}
 use Rattle.board_writes.specs.Stretches.{joined, AreAmong, from_first}
 use Rattle.board_writes.specs.Looks.{left_out_in, is_reached_in}
 use Rattle.board_writes.specs.Polls.{raises_it, staying}
-use Rattle.board_writes.specs.Raising.{same_awaited, found_for, KeepsRaising, AreRaising}
+use Rattle.board_writes.specs.Raising.{same_want, same_awaited, found_for, KeepsRaising, AreRaising}
 use Rattle.board_writes.proofs.StretchLemmas.{filter_from}
 use Rattle.board_writes.proofs.StayLemmas.{any_filter, among_filter}
 
@@ -106,20 +109,44 @@ module _ (awaited : Awaited) (run old : List WordWrite) where
 
 -- What is listed.
 
+abbrev pub derived_want : Want → Want → Bool
+derived_want a b = eqb a.mask b.mask && (eqb a.wanted b.wanted && beq a.differs b.differs)
+
+ways_round : (a b : Bool) → beq a b ≡ same_direction a b
+ways_round true true = refl
+ways_round true false = refl
+ways_round false true = refl
+ways_round false false = refl
+
+ways_round_true : (a b : Bool) → same_direction a b ≡ true → a ≡ b
+ways_round_true true true is = refl
+ways_round_true true false is = cc
+ways_round_true false true is = cc
+ways_round_true false false is = refl
+
+derived_want_same : (a b : Want) → derived_want a b ≡ same_want a b
+derived_want_same a b = ap (λ t. eqb a.mask b.mask && (eqb a.wanted b.wanted && t)) (ways_round a.differs b.differs)
+
+same_want_true : (a b : Want) → same_want a b ≡ true → a ≡ b
+same_want_true a b is =
+    let built : ℕ → ℕ → Bool → Want = λ mask wanted differs. record { mask = mask; wanted = wanted; differs = differs } in
+    let parts = and_parts (a.mask == b.mask) (a.wanted == b.wanted && same_direction a.differs b.differs) is in
+    let others = and_parts (a.wanted == b.wanted) (same_direction a.differs b.differs) parts.1 in
+    ap (λ n. built n a.wanted a.differs) (eqb-true a.mask b.mask parts.0)
+    ∙ ap (λ n. built b.mask n a.differs) (eqb-true a.wanted b.wanted others.0)
+    ∙ ap (built b.mask b.wanted) (ways_round_true a.differs b.differs others.1)
+
 abbrev pub derived_awaited : Awaited → Awaited → Bool
-derived_awaited a b = derived_word a.word b.word && (eqb a.mask b.mask && eqb a.wanted b.wanted)
+derived_awaited a b = derived_word a.word b.word && derived_want a.want b.want
 
 derived_awaited_same : (a b : Awaited) → derived_awaited a b ≡ same_awaited a b
-derived_awaited_same a b = ap (λ t. t && (eqb a.mask b.mask && eqb a.wanted b.wanted)) (derived_word_same a.word b.word)
+derived_awaited_same a b = ap (λ t. t && derived_want a.want b.want) (derived_word_same a.word b.word) ∙ ap (λ t. same_word a.word b.word && t) (derived_want_same a.want b.want)
 
 same_awaited_true : (a b : Awaited) → same_awaited a b ≡ true → a ≡ b
 same_awaited_true a b is =
-    let built : Word → ℕ → ℕ → Awaited = λ word mask wanted. record { word = word; mask = mask; wanted = wanted } in
-    let parts = and_parts (same_word a.word b.word) (a.mask == b.mask && a.wanted == b.wanted) is in
-    let others = and_parts (a.mask == b.mask) (a.wanted == b.wanted) parts.1 in
-    ap (λ w. built w a.mask a.wanted) (same_word_true a.word b.word parts.0)
-    ∙ ap (λ n. built b.word n a.wanted) (eqb-true a.mask b.mask others.0)
-    ∙ ap (built b.word b.mask) (eqb-true a.wanted b.wanted others.1)
+    let built : Word → Want → Awaited = λ word want. record { word = word; want = want } in
+    let parts = and_parts (same_word a.word b.word) (same_want a.want b.want) is in
+    ap (λ w. built w a.want) (same_word_true a.word b.word parts.0) ∙ ap (built b.word) (same_want_true a.want b.want parts.1)
 
 pub found_agrees : {V : Type 0} (awaited : Awaited) (lists : List (Awaited × V)) → lookup (derived_awaited awaited) lists ≡ lookup (same_awaited awaited) lists
 found_agrees awaited lists = lookup_agree (derived_awaited awaited) (same_awaited awaited) (derived_awaited_same awaited) lists

@@ -160,7 +160,7 @@ module _ (test : ℕ → Bool) where
 
 module _ (awaited : Awaited) where
   abbrev met : ℕ → Bool
-  met = is_met_by awaited.mask awaited.wanted
+  met = is_met_by awaited.want
 
   from_is : (ws : List WordWrite) → drop (before_first met (map value_in ws)) ws ≡ from_first (raises_it awaited) ws
   from_is [] = refl

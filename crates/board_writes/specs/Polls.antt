@@ -17,7 +17,7 @@ use Rattle.board_writes.specs.Looks.{left_out_in, any_before, is_reached_in, mos
 
 -- what a poll waits for, as the tests have it
 abbrev pub wish_for : Awaited → Wish
-wish_for awaited = record { word = dword awaited.word; mask = awaited.mask; wanted = awaited.wanted }
+wish_for awaited = record { word = dword awaited.word; want = awaited.want }
 
 -- what is kept of a poll that has a word
 pub record PollFacts : Type 0 where
@@ -29,7 +29,7 @@ pub record PollFacts : Type 0 where
 -- what is kept of a poll is so
 pub record IsPoll (board : Board) (p : OpId) (poll : PollFacts) : Type 0 where
   pub waits : wish_of board p ≡ Some (wish_for poll.awaited)
-  pub opens : poll.opens ≡ is_met_by poll.awaited.mask poll.awaited.wanted (opens_as board (dword poll.awaited.word))
+  pub opens : poll.opens ≡ is_met_by poll.awaited.want (opens_as board (dword poll.awaited.word))
   pub firm : poll.firm ≡ is_firm board (wish_for poll.awaited)
 
 -- something is kept of an operation where it is a poll that has a word
@@ -54,11 +54,11 @@ is_raised board table p (Some wish) = list_any (is_reached board table) (raisers
 
 -- the write brings a value that is waited for
 abbrev pub raises_it : Awaited → WordWrite → Bool
-raises_it awaited write = brings_met awaited.mask awaited.wanted write.phase
+raises_it awaited write = brings_met awaited.want write.phase
 
 -- the write writes all that the mask looks at, and where it brings what is waited for, it does so last
 abbrev pub is_clean_write : Awaited → WordWrite → Bool
-is_clean_write awaited write = is_whole awaited.mask write.phase && (not (raises_it awaited write) || write.last)
+is_clean_write awaited write = is_whole awaited.want.mask write.phase && (not (raises_it awaited write) || write.last)
 
 -- By the rows of a table.
 

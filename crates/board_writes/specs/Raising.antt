@@ -1,7 +1,9 @@
 -- The writes that raise what is waited for, listed apart.
 use Rattle.std.specs.Prelude.{◌≡◌, Bool, List, filter, IfSome, Option, ◌==◌, ◌&&◌}
 use Rattle.std.specs.Map.{lookup}
+use Rattle.board_model.specs.declared.op.Want.{Want}
 use Rattle.board_model.specs.declared.word.Word.{Word}
+use Rattle.history_model.specs.World.{same_direction}
 use Rattle.audit_clocks.specs.Tables.{same_word}
 use Rattle.board_writes.specs.declared.polls.awaited.Awaited.{Awaited}
 use Rattle.board_writes.specs.declared.writers.write.WordWrite.{WordWrite}
@@ -9,9 +11,13 @@ use Rattle.board_writes.specs.Writes.{writes_at}
 use Rattle.board_writes.specs.Polls.{raises_it}
 use Rattle.board_writes.specs.Stretches.{AreAmong}
 
+-- the same two numbers, and the same way round
+abbrev pub same_want : Want → Want → Bool
+same_want a b = a.mask == b.mask && (a.wanted == b.wanted && same_direction a.differs b.differs)
+
 -- the same is waited for
 abbrev pub same_awaited : Awaited → Awaited → Bool
-same_awaited a b = same_word a.word b.word && (a.mask == b.mask && a.wanted == b.wanted)
+same_awaited a b = same_word a.word b.word && same_want a.want b.want
 
 -- what is listed for it, where something is
 abbrev pub found_for : Awaited → List (Awaited × List WordWrite) → Option (List WordWrite)

@@ -31,9 +31,9 @@ follows_masters board master o outcome (Some (ReadOp command address)) is = pres
 follows_masters board master o outcome (Some (Write command address phases)) is = present_masters board master _ is
 follows_masters board master o outcome (Some (CfgRead bus device register)) is = present_masters board master _ is
 follows_masters board master o outcome (Some (CfgWrite bus device register phase)) is = present_masters board master _ is
-follows_masters board master o outcome (Some (Poll space address mask wanted tries)) is =
+follows_masters board master o outcome (Some (Poll space address want tries)) is =
     let P : Bool → Type 0 = λ b. IsMasters master (cond b (next_op board o) (next_try board o)) in
-    elim (meets mask wanted outcome) as P [ true ↦ present_masters board master _ is | false ↦ present_masters board master _ is ]
+    elim (meets want outcome) as P [ true ↦ present_masters board master _ is | false ↦ present_masters board master _ is ]
 
 after_masters : (board : Board) (master : ℕ) (turn : Option OpId) (ending : Option Ending) → IsMasters master turn → IsMasters master (turn_after board master turn ending)
 after_masters board master turn None old = old

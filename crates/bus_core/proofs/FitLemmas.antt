@@ -32,7 +32,7 @@ op_fits (ReadOp command address) on gone well fits within = omega (arith, fits, 
 op_fits (WriteOp command address phases) on gone well fits within = write_fits address gone phases (write_space command) well fits within
 op_fits (CfgRead bus device register) on gone well fits within = omega (arith, fits, within)
 op_fits (CfgWrite bus device register phase) on gone well fits within = omega (arith, fits, within)
-op_fits (Poll space address mask value tries) on gone well fits within = omega (arith, fits, within)
+op_fits (Poll space address want tries) on gone well fits within = omega (arith, fits, within)
 
 -- so does the address of what is left, while anything is
 pub rest_fits : (board : Board) (o : OpId) (on gone : ℕ) (request : Request) → is_well_formed board ≡ true → request_of board o on ≡ Some request → request.address < 2 ^ 64

@@ -53,9 +53,9 @@ tried_once (ReadOp command address) reads = refl
 tried_once (WriteOp command address phases) reads = refl
 tried_once (CfgRead bus device register) reads = refl
 tried_once (CfgWrite bus device register phase) reads = refl
-tried_once (Poll Mem address mask value tries) reads = cc
-tried_once (Poll Io address mask value tries) reads = cc
-tried_once (Poll Cfg address mask value tries) reads = cc
+tried_once (Poll Mem address want tries) reads = cc
+tried_once (Poll Io address want tries) reads = cc
+tried_once (Poll Cfg address want tries) reads = cc
 
 -- what went through of the write after a part of it
 access_parts : (board : Board) (bus : ℕ) (by : By) (o : OpId) (p : List Event) (t : TargetView) (found : Option TargetAgent) (place : Place) (request rest : Request) (access : Access)

@@ -44,9 +44,9 @@ follows_master board q outcome (Some (ReadOp command address)) o is = present_ma
 follows_master board q outcome (Some (Write command address phases)) o is = present_master board (record { master = q.master; index = q.index + 1; attempt = 0 }) o is
 follows_master board q outcome (Some (CfgRead bus device register)) o is = present_master board (record { master = q.master; index = q.index + 1; attempt = 0 }) o is
 follows_master board q outcome (Some (CfgWrite bus device register phase)) o is = present_master board (record { master = q.master; index = q.index + 1; attempt = 0 }) o is
-follows_master board q outcome (Some (Poll space address mask wanted tries)) o is =
+follows_master board q outcome (Some (Poll space address want tries)) o is =
     let P : Bool → Type 0 = λ b. cond b (next_op board q) (next_try board q) ≡ Some o → o.master ≡ q.master in
-    (elim (meets mask wanted outcome) as P [
+    (elim (meets want outcome) as P [
       | true ↦ λ e. present_master board (record { master = q.master; index = q.index + 1; attempt = 0 }) o e
       | false ↦ λ e. present_master board (record { master = q.master; index = q.index; attempt = q.attempt + 1 }) o e
     ]) is

@@ -34,7 +34,7 @@ polls_clear clear (Read command address) = true
 polls_clear clear (Write command address phases) = true
 polls_clear clear (CfgRead bus device register) = true
 polls_clear clear (CfgWrite bus device register phase) = true
-polls_clear clear (Poll space address mask value tries) = clear address value
+polls_clear clear (Poll space address want tries) = clear address want.wanted
 
 abbrev pub master_clear : (ℕ → ℕ → Bool) → Master → Bool
 master_clear clear master = list_all (polls_clear clear) master.ops

@@ -9,6 +9,7 @@ use Rattle.board_text.specs.Lines.{lines_of}
 use Rattle.text_faults.specs.declared.board_line.LineFault.{LineFault}
 use Rattle.board_statements.specs.declared.statement.Statement.TheVariants.{Does, NewMaster}
 use Rattle.board_statements.specs.Words.{Reader, one_word, hex, decimal, fixed, decimal_of}
+use Rattle.board_statements.specs.Masters.{tail_form}
 use Rattle.board_parser.specs.declared.draft.draft.Draft.{Draft}
 use Rattle.board_parser.specs.draft.Drafts.{board_of}
 use Rattle.board_parser.specs.draft.Formed.{is_formed_op}
@@ -103,11 +104,11 @@ put_yields =
 
 get_yields : Yields get_form IsFormedLine
 unfolding get_form is_formed_line
-get_yields = yields-bind (hex 8) _ Any IsFormedLine (yields-any (hex 8)) (λ address _. yields-give (Gets address) IsFormedLine refl)
+get_yields = yields-bind (hex 8) _ Any IsFormedLine (yields-any (hex 8)) (λ address _. yields-next tail_form _ IsFormedLine (yields-give (Gets address) IsFormedLine refl))
 
 look_yields : Yields look_form IsFormedLine
 unfolding look_form is_formed_line
-look_yields = yields-bind (hex 8) _ Any IsFormedLine (yields-any (hex 8)) (λ address _. yields-give (Looks address) IsFormedLine refl)
+look_yields = yields-bind (hex 8) _ Any IsFormedLine (yields-any (hex 8)) (λ address _. yields-next tail_form _ IsFormedLine (yields-give (Looks address) IsFormedLine refl))
 
 sent_ok : (address : ℕ) (message : Option ℕ) (words : List (List ℕ)) (read : DeviceLine × List (List ℕ)) → sent address message words ≡ Ok read → IsFormedLine read.0
 unfolding is_formed_line

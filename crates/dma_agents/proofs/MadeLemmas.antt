@@ -2,6 +2,7 @@
 use Rattle.std.proofs.Common.{◌≡◌, ℕ, zero, suc, ◌+◌, ◌-◌, ◌≤◌, Bool, true, false, cond, nat_lt, List, [], ◌∷◌, length, drop, Option, Some, None, Result, Ok, Err, refl, ap, subst, ◌∙◌, arith, slice_get, codes}
 use Rattle.pci_command.specs.declared.command.Space.TheVariants.{Mem}
 use Rattle.pci_command.specs.declared.op_id.OpId.{OpId}
+use Rattle.board_model.specs.Wants.{exactly}
 use Rattle.board_model.specs.declared.agents.Master.{Master}
 use Rattle.board_model.specs.declared.board.Board.{Board}
 use Rattle.list_facts.proofs.TestLemmas.{list_all-get}
@@ -91,10 +92,10 @@ stands_at board o op is =
     ]) refl is
 
 pub made_clear : (text : List ℕ) (made : Made) (p : OpId) (address value tries : ℕ) → made_read text ≡ Ok made → made.first ≤ p.master
-    → op_of made.board p ≡ Some (Poll Mem address 0xffff_ffff value tries) → is_clear made.board address value ≡ true
+    → op_of made.board p ≡ Some (Poll Mem address (exactly value) tries) → is_clear made.board address value ≡ true
 made_clear text made p address value tries is least awaits =
     let board : Board = made.board in
-    let op : Op = Poll Mem address 0xffff_ffff value tries in
+    let op : Op = Poll Mem address (exactly value) tries in
     let stands = stands_at board p op awaits in
     let all : ClearMade (Ok made) = subst ClearMade is (first_clear (lines_of text)) in
     let behind = behind_drop board.masters made.first p.master stands.master least stands.is_master in

@@ -2,6 +2,7 @@
 use Rattle.std.specs.Prelude.{◌≡◌, ℕ, Bool, true, false, ◌+◌, ◌%◌, ◌^◌, List, [], ◌∷◌, Option, Some, None, Result, Ok, Err, not, ◌==◌, nat_le, if◌then◌else◌}
 use Rattle.pci_command.specs.declared.command.Command.TheVariants.{MemRead, MemWrite}
 use Rattle.pci_command.specs.declared.command.Space.TheVariants.{Mem}
+use Rattle.board_model.specs.Wants.{exactly}
 use Rattle.board_model.specs.declared.board.Board.{Board}
 use Rattle.board_model.specs.declared.op.Op.{Op}
 use Rattle.board_model.specs.declared.op.Op.TheVariants.{Read, Write, Poll}
@@ -58,7 +59,7 @@ is_placed (Writes address value) = address % 4 == 0
 
 -- the operations: a poll of all bits for the flag, a read of a dword, a write of a whole dword
 abbrev pub poll_of : Flag → Op
-poll_of flag = Poll Mem flag.address 0xffff_ffff flag.value flag.tries
+poll_of flag = Poll Mem flag.address (exactly flag.value) flag.tries
 
 -- a read of the dword at the address
 abbrev pub read_of : ℕ → Op

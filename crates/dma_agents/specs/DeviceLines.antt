@@ -6,6 +6,7 @@ use Rattle.board_model.specs.Names.{is_name}
 use Rattle.text_faults.specs.declared.board_line.LineFault.{LineFault}
 use Rattle.text_faults.specs.declared.board_line.LineFault.TheVariants.{WrongWord, IllFormed}
 use Rattle.board_statements.specs.Words.{◌>>=◌, ◌>>◌, Reader, give, one_word, whole, hex, decimal, fixed}
+use Rattle.board_statements.specs.Masters.{tail_form}
 use Rattle.dma_agents.specs.messages.Message.{message_of}
 use Rattle.dma_agents.specs.declared.line.Flag.{Flag}
 use Rattle.dma_agents.specs.declared.line.DeviceLine.{DeviceLine}
@@ -56,16 +57,18 @@ put_form = do
   seed ← hex 8
   seeded address length seed
 
--- `get ADDR` and `look ADDR`
+-- `get ADDR`, and its tail
 unfoldable pub get_form : Reader DeviceLine
 get_form = do
   address ← hex 8
+  tail_form
   give (Gets address)
 
 -- the same of `look`
 unfoldable pub look_form : Reader DeviceLine
 look_form = do
   address ← hex 8
+  tail_form
   give (Looks address)
 
 -- the message, where there is one

@@ -13,7 +13,7 @@ ghost use Rattle.dma_agents.specs.Adding.{limited, add_one, add_ops, begins, beg
 ghost use Rattle.dma_agents.specs.Adding.{bus_there, added, line_added};
 
 use crate::{DeviceLine, DeviceOwner, Flag, Put, cut};
-use board_model::{Name, Op};
+use board_model::{Name, Op, Want};
 use board_parser::{AddFault, Sheet};
 use board_statements::Statement;
 use pci_command::{Command, NoMemory, Phase, Phases, Space};
@@ -227,8 +227,11 @@ fn poll_of(flag: Flag) -> Op
     Op::Poll {
         space: Space::Mem,
         address: u64::from(flag.address),
-        mask: 0xffff_ffff,
-        value: flag.value,
+        want: Want {
+            mask: 0xffff_ffff,
+            wanted: flag.value,
+            differs: false,
+        },
         tries: flag.tries,
     }
 }

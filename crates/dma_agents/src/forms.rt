@@ -10,7 +10,7 @@ ghost use Rattle.dma_agents.specs.DeviceLines.{word_form, form_behind, device_li
 use crate::messages::message;
 use crate::{DeviceLine, Flag, Put};
 use board_model::{MOST_TRIES, Name};
-use board_statements::{Words, is_word};
+use board_statements::{Words, is_word, read_tail};
 use text_faults::LineFault;
 
 /// What a line says by its words. Its fault says that it has none of the forms.
@@ -97,21 +97,23 @@ fn put(words: &mut Words) -> Result<DeviceLine, LineFault>
     }))
 }
 
-// `get ADDR`
+// `get ADDR`, and its tail
 #[tactic(auto, unfolding(crate::specs::DeviceLines::get_form))]
 fn get(words: &mut Words) -> Result<DeviceLine, LineFault>
     ensures { Gives result words.new (get_form words.old) }
 {
     let address = words.hex()?;
+    read_tail(words)?;
     Ok(DeviceLine::Gets(address))
 }
 
-// `look ADDR`
+// `look ADDR`, and its tail
 #[tactic(auto, unfolding(crate::specs::DeviceLines::look_form))]
 fn look(words: &mut Words) -> Result<DeviceLine, LineFault>
     ensures { Gives result words.new (look_form words.old) }
 {
     let address = words.hex()?;
+    read_tail(words)?;
     Ok(DeviceLine::Looks(address))
 }
 

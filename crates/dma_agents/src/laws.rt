@@ -4,6 +4,7 @@ ghost use Rattle.pci_command.specs.declared.command.Command.TheVariants.{MemWrit
 ghost use Rattle.pci_command.specs.declared.phases.Phase.{Phase};
 ghost use Rattle.pci_command.specs.declared.command.Space.TheVariants.{Mem};
 ghost use Rattle.pci_command.specs.declared.op_id.OpId.{OpId};
+ghost use Rattle.board_model.specs.Wants.{exactly};
 ghost use Rattle.board_model.specs.declared.op.Op.TheVariants.{Write, Poll};
 ghost use Rattle.board_model.specs.Requests.{op_of};
 ghost use Rattle.board_model.specs.declared.board.Board.{Board};
@@ -48,7 +49,7 @@ pub fn made_boards_are_well_formed()
 pub fn made_flags_are_clear()
     ensures { (text : List ℕ) (made : Made) (p : OpId) (address value tries : ℕ) →
         made_read text ≡ Ok made → made.first ≤ p.master →
-        op_of made.board p ≡ Some (Poll Mem address 0xffff_ffff value tries) →
+        op_of made.board p ≡ Some (Poll Mem address (exactly value) tries) →
         is_clear made.board address value ≡ true }
 {}
 

@@ -1,11 +1,13 @@
 -- The programs of the masters: each presents its operations in order, and repeats one until it ends.
-use Rattle.std.specs.Prelude.{ℕ, Bool, false, ◌+◌, List, [], ◌∷◌, Option, Some, None, is_some, ◌==◌, if◌then◌else◌, bit_and}
+use Rattle.std.specs.Prelude.{ℕ, Bool, false, ◌+◌, List, [], ◌∷◌, Option, Some, None, is_some, ◌==◌, if◌then◌else◌}
 use Rattle.pci_command.specs.declared.op_id.OpId.{OpId}
 use Rattle.pci_command.specs.declared.op_id.Outcome.{Outcome}
 use Rattle.pci_command.specs.declared.op_id.Outcome.TheVariants.{Value, Written, Aborted, Nobody}
 use Rattle.board_model.specs.declared.op.Op.{Op}
 use Rattle.board_model.specs.declared.op.Op.TheVariants.{Read as ReadOp, Write, CfgRead, CfgWrite, Poll}
+use Rattle.board_model.specs.declared.op.Want.{Want}
 use Rattle.board_model.specs.declared.board.Board.{Board}
+use Rattle.board_model.specs.Wants.{wants}
 use Rattle.board_model.specs.Requests.{op_of}
 use Rattle.history_model.specs.declared.event.By.{By}
 use Rattle.history_model.specs.declared.event.By.TheVariants.{Master, Lane as ByLane}
@@ -58,12 +60,12 @@ next_op board o = present board (record { master = o.master; index = o.index + 1
 abbrev pub next_try : Board → OpId → Option OpId
 next_try board o = present board (record { master = o.master; index = o.index; attempt = o.attempt + 1 })
 
--- a poll is met by a value that is the wanted one under the mask
-abbrev pub meets : ℕ → ℕ → Outcome → Bool
-meets mask wanted (Value value) = bit_and value mask == wanted
-meets mask wanted Written = false
-meets mask wanted Aborted = false
-meets mask wanted Nobody = false
+-- a poll is met by a value that it waits for
+abbrev pub meets : Want → Outcome → Bool
+meets want (Value value) = wants want value
+meets want Written = false
+meets want Aborted = false
+meets want Nobody = false
 
 -- what follows an operation that ended so: after a try of a poll that was not met the next try, and
 -- after its last one nothing; else the next operation
@@ -72,8 +74,8 @@ follows_op board o outcome (ReadOp command address) = next_op board o
 follows_op board o outcome (Write command address phases) = next_op board o
 follows_op board o outcome (CfgRead bus device register) = next_op board o
 follows_op board o outcome (CfgWrite bus device register phase) = next_op board o
-follows_op board o outcome (Poll space address mask wanted tries) =
-    if meets mask wanted outcome then next_op board o else next_try board o
+follows_op board o outcome (Poll space address want tries) =
+    if meets want outcome then next_op board o else next_try board o
 
 -- where the operation is there
 abbrev pub follows_in : Board → OpId → Outcome → Option Op → Option OpId

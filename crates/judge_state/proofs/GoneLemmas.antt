@@ -8,6 +8,7 @@ use Rattle.pci_command.specs.declared.command.Space.TheVariants.{Mem, Io, Cfg}
 use Rattle.pci_command.specs.Same.{same_op}
 use Rattle.pci_command.specs.declared.op_id.OpId.{OpId}
 use Rattle.board_model.specs.Limits.{most_dwords}
+use Rattle.board_model.specs.declared.op.Want.{Want}
 use Rattle.board_model.specs.declared.agents.Master.{Master as MasterAgent}
 use Rattle.board_model.specs.declared.bridge.Place.{Place}
 use Rattle.board_model.specs.declared.op.Op.{Op}
@@ -70,17 +71,17 @@ added_other gone p n master index other =
 
 -- Of two names with one master and index, which both name the operation of a posted write, the try is the same.
 
-no_posted_poll : (space : Space) (address mask value tries on : ℕ) → is_posted (request_on (Poll space address mask value tries) on) ≡ true → ⊥
-no_posted_poll Mem address mask value tries on posted = cc
-no_posted_poll Io address mask value tries on posted = cc
-no_posted_poll Cfg address mask value tries on posted = cc
+no_posted_poll : (space : Space) (address : ℕ) (want : Want) (tries on : ℕ) → is_posted (request_on (Poll space address want tries) on) ≡ true → ⊥
+no_posted_poll Mem address want tries on posted = cc
+no_posted_poll Io address want tries on posted = cc
+no_posted_poll Cfg address want tries on posted = cc
 
 posted_once : (op : Op) (on : ℕ) → is_posted (request_on op on) ≡ true → tries_of op ≡ 1
 posted_once (ReadOp command address) on posted = refl
 posted_once (Write command address phases) on posted = refl
 posted_once (CfgRead bus device register) on posted = refl
 posted_once (CfgWrite bus device register phase) on posted = refl
-posted_once (Poll space address mask value tries) on posted = absurd (no_posted_poll space address mask value tries on posted)
+posted_once (Poll space address want tries) on posted = absurd (no_posted_poll space address want tries on posted)
 
 abbrev tried : ℕ → Op → Option Op
 tried attempt op = if nat_lt attempt (tries_of op) then Some op else None

@@ -48,9 +48,9 @@ follows_after board o outcome (Some (ReadOp command address)) = next_after board
 follows_after board o outcome (Some (Write command address phases)) = next_after board o
 follows_after board o outcome (Some (CfgRead bus device register)) = next_after board o
 follows_after board o outcome (Some (CfgWrite bus device register phase)) = next_after board o
-follows_after board o outcome (Some (Poll space address mask wanted tries)) =
+follows_after board o outcome (Some (Poll space address want tries)) =
     let P : Bool → Type 0 = λ b. After o (cond b (next_op board o) (next_try board o)) in
-    elim (meets mask wanted outcome) as P [ true ↦ next_after board o | false ↦ try_after board o ]
+    elim (meets want outcome) as P [ true ↦ next_after board o | false ↦ try_after board o ]
 
 module _ (board : Board) where
   -- an operation that its master presented, and that is no turn any more or knows what its master knows

@@ -8,6 +8,7 @@ use Rattle.list_facts.proofs.TotalLemmas.{total-zero}
 use Rattle.pci_command.specs.declared.command.Space.{Space}
 use Rattle.pci_command.specs.declared.command.Space.TheVariants.{Mem, Io, Cfg}
 use Rattle.pci_command.specs.declared.op_id.OpId.{OpId}
+use Rattle.board_model.specs.declared.op.Want.{Want}
 use Rattle.board_model.specs.declared.agents.Target.{Target as TargetAgent}
 use Rattle.board_model.specs.declared.agents.Master.{Master as MasterAgent}
 use Rattle.board_model.specs.declared.bridge.Lane.{Lane as BridgeLane}
@@ -26,17 +27,17 @@ use Rattle.board_model.proofs.Laws.{WellFormed-parts, Master-parts, Within-parts
 
 -- A posted write is tried once, and of a delayed request no lane holds a slot.
 
-posted_space : (space : Space) (address mask value tries on : ℕ) → is_posted (request_on (Poll space address mask value tries) on) ≡ true → tries ≡ 1
-posted_space Mem address mask value tries on posted = cc
-posted_space Io address mask value tries on posted = cc
-posted_space Cfg address mask value tries on posted = cc
+posted_space : (space : Space) (address : ℕ) (want : Want) (tries on : ℕ) → is_posted (request_on (Poll space address want tries) on) ≡ true → tries ≡ 1
+posted_space Mem address want tries on posted = cc
+posted_space Io address want tries on posted = cc
+posted_space Cfg address want tries on posted = cc
 
 posted_once : (op : Op) (on : ℕ) → is_posted (request_on op on) ≡ true → tries_of op ≡ 1
 posted_once (Read command address) on posted = refl
 posted_once (Write command address phases) on posted = refl
 posted_once (CfgRead bus device register) on posted = refl
 posted_once (CfgWrite bus device register phase) on posted = refl
-posted_once (Poll space address mask value tries) on posted = posted_space space address mask value tries on posted
+posted_once (Poll space address want tries) on posted = posted_space space address want tries on posted
 
 none_held : (board : Board) (o : OpId) (lanes : List BridgeLane) → delayed_left (world_of board []) o lanes ≡ 4 * length lanes + 1
 none_held board o [] = refl

@@ -8,6 +8,7 @@ use Rattle.pci_command.specs.declared.command.Space.TheVariants.{Mem}
 use Rattle.pci_command.specs.declared.phases.Phase.{Phase}
 use Rattle.pci_command.specs.declared.op_id.OpId.{OpId}
 use Rattle.pci_command.specs.Same.{same_command}
+use Rattle.board_model.specs.Wants.{exactly}
 use Rattle.board_model.specs.declared.agents.Master.{Master as MasterAgent}
 use Rattle.board_model.specs.declared.agents.Target.{Target as TargetAgent}
 use Rattle.board_model.specs.declared.op.Op.{Op}
@@ -73,7 +74,7 @@ raiser board address value n is =
       | Some op ↦ λ is_op f. let some : 1 ≤ rings address value op = grind (arith, nat_tests) in record { op = op; is_op = is_op; some = some; posted = rings_posted address value op some }
     ]) refl is
 
-module _ (board : Board) (valid : IsValid board) (h : List Event) (run : Run board h) (p : OpId) (address value tries : ℕ) (is_op : op_of board p ≡ Some (Poll Mem address 0xffff_ffff value tries))
+module _ (board : Board) (valid : IsValid board) (h : List Event) (run : Run board h) (p : OpId) (address value tries : ℕ) (is_op : op_of board p ≡ Some (Poll Mem address (exactly value) tries))
     (clear : Clear board address value) (n : OpId) (raised : Raiser board address value n) (is : is_met value (given_value h p) ≡ true) where
   owner : Owner board address value
   owner = owner_of board address value valid clear.opens

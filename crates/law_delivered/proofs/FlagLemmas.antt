@@ -165,14 +165,14 @@ writes_memory (ReadOp command address) writes memory = plain_writes command writ
 writes_memory (Write command address phases) writes memory = plain_writes command writes memory
 writes_memory (CfgRead bus device register) writes memory = cc
 writes_memory (CfgWrite bus device register phase) writes memory = cc
-writes_memory (Poll space address mask value tries) writes memory = let e : true ≡ false = sym (reads_space space) ∙ writes in cc
+writes_memory (Poll space address want tries) writes memory = let e : true ≡ false = sym (reads_space space) ∙ writes in cc
 
 one_address : (op : Op) (on other : ℕ) → same_command (command_of op) MemWrite ≡ true → address_on op on ≡ address_on op other
 one_address (ReadOp command address) on other posted = refl
 one_address (Write command address phases) on other posted = refl
 one_address (CfgRead bus device register) on other posted = cc
 one_address (CfgWrite bus device register phase) on other posted = cc
-one_address (Poll space address mask value tries) on other posted = refl
+one_address (Poll space address want tries) on other posted = refl
 
 is_mem : (space : Space) → same_space space Mem ≡ true → space ≡ Mem
 is_mem Mem is = refl

@@ -8,6 +8,7 @@ use Rattle.pci_command.specs.declared.request.Request.{Request}
 use Rattle.pci_command.specs.declared.op_id.OpId.{OpId}
 use Rattle.pci_command.specs.declared.op_id.Outcome.{Outcome}
 use Rattle.pci_command.specs.Command.{is_read}
+use Rattle.board_model.specs.Wants.{exactly}
 use Rattle.board_model.specs.declared.agents.Master.{Master as MasterAgent}
 use Rattle.board_model.specs.declared.agents.Target.{Target as TargetAgent}
 use Rattle.board_model.specs.declared.bridge.Lane.{Lane as BridgeLane}
@@ -37,7 +38,7 @@ use Rattle.law_delivered.proofs.left.HeldLemmas.{reading_held}
 
 module _ (board : Board) (address value tries : ℕ) where
   abbrev poll : Op
-  poll = Poll Mem address 0xffff_ffff value tries
+  poll = Poll Mem address (exactly value) tries
 
   abbrev probe : Op
   probe = Write MemWrite address []
@@ -188,9 +189,9 @@ met_given : (value : ℕ) (given : Option ℕ) → is_met value given ≡ true �
 met_given value None is = cc
 met_given value (Some word) is = (word, refl, is)
 
-module _ (board : Board) (valid : IsValid board) (p : OpId) (address value tries : ℕ) (is_op : op_of board p ≡ Some (Poll Mem address 0xffff_ffff value tries)) (owner : Owner board address value) where
+module _ (board : Board) (valid : IsValid board) (p : OpId) (address value tries : ℕ) (is_op : op_of board p ≡ Some (Poll Mem address (exactly value) tries)) (owner : Owner board address value) where
   abbrev op : Op
-  op = Poll Mem address 0xffff_ffff value tries
+  op = Poll Mem address (exactly value) tries
 
   abbrev pub flag : Dword
   flag = record { target = owner.place; space = Mem; address = address }

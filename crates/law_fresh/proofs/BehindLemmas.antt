@@ -43,9 +43,9 @@ op_behind board p outcome (ReadOp command address) = next_op_behind board p
 op_behind board p outcome (Write command address phases) = next_op_behind board p
 op_behind board p outcome (CfgRead bus device register) = next_op_behind board p
 op_behind board p outcome (CfgWrite bus device register phase) = next_op_behind board p
-op_behind board p outcome (Poll space address mask wanted tries) =
+op_behind board p outcome (Poll space address want tries) =
     let P : Bool → Type 0 = λ b. IsBehind p (cond b (next_op board p) (next_try board p)) in
-    elim (meets mask wanted outcome) as P [ true ↦ next_op_behind board p | false ↦ next_try_behind board p ]
+    elim (meets want outcome) as P [ true ↦ next_op_behind board p | false ↦ next_try_behind board p ]
 
 pub follows_behind : (board : Board) (p : OpId) (outcome : Outcome) → IsBehind p (follows board (record { op = p; outcome = outcome }))
 follows_behind board p outcome =

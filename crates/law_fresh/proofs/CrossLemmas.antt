@@ -76,7 +76,7 @@ same_on (ReadOp command address) on other posted = refl
 same_on (Write command address phases) on other posted = refl
 same_on (CfgRead bus device register) on other posted = cc
 same_on (CfgWrite bus device register phase) on other posted = cc
-same_on (Poll space address mask value tries) on other posted = refl
+same_on (Poll space address want tries) on other posted = refl
 
 module _ (board : Board) (valid : IsValid board) (op : Op) (posted : same_command (command_of op) MemWrite ≡ true) where
   in_memory : (on : ℕ) → space_of (request_on op on).command ≡ Mem

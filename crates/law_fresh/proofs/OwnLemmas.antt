@@ -39,7 +39,7 @@ write_tries (ReadOp command address) writes = refl
 write_tries (Write command address phases) writes = refl
 write_tries (CfgRead bus device register) writes = refl
 write_tries (CfgWrite bus device register phase) writes = refl
-write_tries (Poll space address mask wanted tries) writes = let e : true ≡ false = sym (poll_reads space) ∙ writes in cc
+write_tries (Poll space address want tries) writes = let e : true ≡ false = sym (poll_reads space) ∙ writes in cc
 
 pub write_op : (board : Board) (w : OpId) → is_write board w ≡ true → WriteOp board w
 write_op board w is =
@@ -93,9 +93,9 @@ follows_there board o outcome (Some (ReadOp command address)) = present_there bo
 follows_there board o outcome (Some (Write command address phases)) = present_there board _
 follows_there board o outcome (Some (CfgRead bus device register)) = present_there board _
 follows_there board o outcome (Some (CfgWrite bus device register phase)) = present_there board _
-follows_there board o outcome (Some (Poll space address mask wanted tries)) =
+follows_there board o outcome (Some (Poll space address want tries)) =
     let P : Bool → Type 0 = λ b. There board (cond b (next_op board o) (next_try board o)) in
-    elim (meets mask wanted outcome) as P [ true ↦ present_there board _ | false ↦ present_there board _ ]
+    elim (meets want outcome) as P [ true ↦ present_there board _ | false ↦ present_there board _ ]
 
 after_there : (board : Board) (master : ℕ) (turn : Option OpId) (ending : Option Ending) → There board turn → There board (turn_after board master turn ending)
 after_there board master turn None old = old
@@ -131,9 +131,9 @@ follows_near board o outcome (Some (ReadOp command address)) = next_near board o
 follows_near board o outcome (Some (Write command address phases)) = next_near board o
 follows_near board o outcome (Some (CfgRead bus device register)) = next_near board o
 follows_near board o outcome (Some (CfgWrite bus device register phase)) = next_near board o
-follows_near board o outcome (Some (Poll space address mask wanted tries)) =
+follows_near board o outcome (Some (Poll space address want tries)) =
     let P : Bool → Type 0 = λ b. Near o (cond b (next_op board o) (next_try board o)) in
-    elim (meets mask wanted outcome) as P [ true ↦ next_near board o | false ↦ try_near board o ]
+    elim (meets want outcome) as P [ true ↦ next_near board o | false ↦ try_near board o ]
 
 -- Writes before the turn ended.
 

@@ -56,7 +56,7 @@ op_single (Read command address) well = λ delayed. omega arith
 op_single (Write command address phases) well = write_single command address phases well
 op_single (CfgRead bus device register) well = λ delayed. omega arith
 op_single (CfgWrite bus device register phase) well = λ delayed. omega arith
-op_single (Poll space address mask value tries) well = λ delayed. omega arith
+op_single (Poll space address want tries) well = λ delayed. omega arith
 
 pub WellFormed-numbers : (board : Board) → is_well_formed board ≡ true → DifferentNumbers board
 WellFormed-numbers board well = apart_distinct board.bridges (WellFormed-parts board well).numbered_apart

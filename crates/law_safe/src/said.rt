@@ -3,6 +3,7 @@
 ghost use Rattle.std.specs.Prelude.{◌≡◌, ℕ, List, ◌∷◌, Some, true, false};
 ghost use Rattle.pci_command.specs.declared.op_id.OpId.{OpId};
 ghost use Rattle.pci_command.specs.declared.op_id.Outcome.{Outcome};
+ghost use Rattle.board_model.specs.declared.op.Want.{Want};
 ghost use Rattle.board_model.specs.declared.bridge.Place.{Place};
 ghost use Rattle.board_model.specs.declared.board.Board.{Board};
 ghost use Rattle.board_model.specs.Ways.{Dword};
@@ -31,11 +32,11 @@ pub fn said_safe_returns()
 
 /// No try of a poll that is said to be vain ends with a value that meets it.
 pub fn said_vain_is_not_met()
-    ensures { (board : Board) (table : Table) (e : Event) (h : List Event) (p : OpId) (mask : ℕ)
-        (wanted : ℕ) (outcome : Outcome) → IsValid board → IsLargest board table →
-        said_of board table (at_place p.master p.index) ≡ Some vain → Awaits board p mask wanted →
+    ensures { (board : Board) (table : Table) (e : Event) (h : List Event) (p : OpId)
+        (want : Want) (outcome : Outcome) → IsValid board → IsLargest board table →
+        said_of board table (at_place p.master p.index) ≡ Some vain → Awaits board p want →
         Run board (e ∷ h) → ended e ≡ Some (record { op = p; outcome = outcome }) →
-        meets mask wanted outcome ≡ false }
+        meets want outcome ≡ false }
 {}
 
 /// No run has an event of an operation that is not reached, so that nothing is said of it.

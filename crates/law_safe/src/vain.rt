@@ -4,6 +4,7 @@
 ghost use Rattle.std.specs.Prelude.{◌≡◌, ℕ, List, ◌∷◌, Some, false};
 ghost use Rattle.pci_command.specs.declared.op_id.OpId.{OpId};
 ghost use Rattle.pci_command.specs.declared.op_id.Outcome.{Outcome};
+ghost use Rattle.board_model.specs.declared.op.Want.{Want};
 ghost use Rattle.board_model.specs.declared.bridge.Place.{Place};
 ghost use Rattle.board_model.specs.declared.board.Board.{Board};
 ghost use Rattle.board_model.specs.Valid.{IsValid};
@@ -25,8 +26,8 @@ pub fn unreached_has_no_event()
 
 /// No try of a poll that is vain ends with a value that meets it.
 pub fn vain_poll_is_not_met()
-    ensures { (board : Board) (table : Table) (e : Event) (h : List Event) (p : OpId) (mask : ℕ)
-        (wanted : ℕ) (outcome : Outcome) → IsValid board → IsConsistent board table →
-        IsVain board table p mask wanted → Run board (e ∷ h) →
-        ended e ≡ Some (record { op = p; outcome = outcome }) → meets mask wanted outcome ≡ false }
+    ensures { (board : Board) (table : Table) (e : Event) (h : List Event) (p : OpId)
+        (want : Want) (outcome : Outcome) → IsValid board → IsConsistent board table →
+        IsVain board table p want → Run board (e ∷ h) →
+        ended e ≡ Some (record { op = p; outcome = outcome }) → meets want outcome ≡ false }
 {}

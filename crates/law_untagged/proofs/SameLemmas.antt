@@ -11,6 +11,7 @@ use Rattle.pci_command.specs.declared.request.Request.{Request}
 use Rattle.pci_command.specs.declared.op_id.OpId.{OpId}
 use Rattle.pci_command.specs.Command.{code_of, plain_of}
 use Rattle.pci_command.specs.Same.{same_command, same_phase, same_request}
+use Rattle.board_model.specs.declared.op.Want.{Want}
 use Rattle.board_model.specs.declared.op.Op.{Op}
 use Rattle.board_model.specs.declared.op.Op.TheVariants.{Read, Write, CfgRead, CfgWrite, Poll}
 use Rattle.board_model.specs.declared.board.Board.{Board}
@@ -44,17 +45,17 @@ write_code MemReadMultiple address phases well = cc
 write_code MemReadLine address phases well = cc
 write_code MemWriteInvalidate address phases well = omega arith
 
-poll_code : (space : Space) (address mask value tries : ℕ) → is_well_formed_op (Poll space address mask value tries) ≡ true → code_of (read_in space) < 10
-poll_code Mem address mask value tries well = omega arith
-poll_code Io address mask value tries well = omega arith
-poll_code Cfg address mask value tries well = cc
+poll_code : (space : Space) (address : ℕ) (want : Want) (tries : ℕ) → is_well_formed_op (Poll space address want tries) ≡ true → code_of (read_in space) < 10
+poll_code Mem address want tries well = omega arith
+poll_code Io address want tries well = omega arith
+poll_code Cfg address want tries well = cc
 
 view : (op : Op) → is_well_formed_op op ≡ true → View op
 view (Read command address) well = fixed (λ x y. refl) (read_code command address well)
 view (Write command address phases) well = fixed (λ x y. refl) (write_code command address phases well)
 view (CfgRead bus device number) well = register bus device number (grind (arith, nat_tests)) (grind (arith, nat_tests)) (λ x. refl) (omega arith)
 view (CfgWrite bus device number phase) well = register bus device number (grind (arith, nat_tests)) (grind (arith, nat_tests)) (λ x. refl) (omega arith)
-view (Poll space address mask value tries) well = fixed (λ x y. refl) (poll_code space address mask value tries well)
+view (Poll space address want tries) well = fixed (λ x y. refl) (poll_code space address want tries well)
 
 -- an address of a register tells the bus, the device and the register
 pub record Register (bus device number bus2 device2 number2 : ℕ) : Type 0 where

@@ -8,7 +8,7 @@ ghost use Rattle.history_model.specs.Program.{ended_by, master_outcome, follows,
 ghost use Rattle.history_model.specs.Program.{next_op, next_try, present, meets};
 
 use crate::endings::master_outcome;
-use board_model::{Board, Op, op_of};
+use board_model::{Board, Op, Want, op_of};
 use history_model::{By, Event, Step};
 use pci_command::{OpId, Outcome};
 
@@ -74,17 +74,17 @@ pub fn follows(board: &Board, op: OpId, outcome: Outcome) -> Option<OpId>
     ensures { result ≡ follows board.now (record { op = op; outcome = outcome }) }
 {
     match op_of(board, op)? {
-        Op::Poll { mask, value, .. } if !meets(*mask, *value, outcome) => next_try(board, op),
+        Op::Poll { want, .. } if !meets(*want, outcome) => next_try(board, op),
         _ => next_op(board, op),
     }
 }
 
-/// Whether a read of this outcome meets a poll for the value under the mask.
-fn meets(mask: u32, wanted: u32, outcome: Outcome) -> bool
-    ensures { result ≡ meets mask wanted outcome }
+/// Whether a read of this outcome meets a poll.
+fn meets(want: Want, outcome: Outcome) -> bool
+    ensures { result ≡ meets want outcome }
 {
     match outcome {
-        Outcome::Value(value) => value & mask == wanted,
+        Outcome::Value(value) => want.is_met_by(value),
         Outcome::Written | Outcome::Aborted | Outcome::Nobody => false,
     }
 }

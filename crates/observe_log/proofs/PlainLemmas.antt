@@ -10,6 +10,7 @@ use Rattle.std.proofs.lemmas.List.Sums.{position_or_len_is, fails_before_first, 
 use Rattle.std.proofs.lemmas.List.Splits.{slice_split_none}
 use Rattle.board_text.specs.Lines.{is_newline, is_allowed, lines_of}
 use Rattle.board_text.specs.Tokens.{is_separator, is_comment, uncommented, words_in, words_of}
+use Rattle.board_text.proofs.AllowedLemmas.{allowed_line}
 use Rattle.board_text.proofs.CutLemmas.{next_step}
 use Rattle.board_text.proofs.NextLemmas.{is_word, kept, words_few}
 use Rattle.observe_log.specs.Plain.{is_plain, is_no_plain, IsPlain, StandsAlone}
@@ -157,7 +158,7 @@ plain_is rest line size is inside front short =
     let within : ltb 256 (length line) ≡ false = grind (arith, nat_tests) in
     let allowed : list_all is_allowed line ≡ true = list_all-from_AllPass is_allowed line (λ k d here. may_stand (get_or line k d) (all k d here)) in
     record {
-      readable = rw (within, allowed) refl;
+      readable = rw (within, allowed_line line allowed) refl;
       whole = uncommented_all line (λ k d here. is_uncut (get_or line k d) (all k d here));
       short = omega (arith, long);
     }

@@ -18,6 +18,7 @@ is_operation word =
     bytes_eq word (codes "mr") || bytes_eq word (codes "mrl") || bytes_eq word (codes "mrm") || bytes_eq word (codes "ior")
     || bytes_eq word (codes "mw") || bytes_eq word (codes "mwi") || bytes_eq word (codes "iow") || bytes_eq word (codes "cfr")
     || bytes_eq word (codes "cfw") || bytes_eq word (codes "poll") || bytes_eq word (codes "iopoll")
+    || bytes_eq word (codes "pollnot") || bytes_eq word (codes "iopollnot")
 
 -- a line of a board text that no log has: an operation, how a target stalls or disconnects, and what is thrown away
 abbrev pub is_left_out : List ℕ → Bool

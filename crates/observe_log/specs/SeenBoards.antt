@@ -86,7 +86,7 @@ are_threads (Some thread) (Some master) = is_thread_of thread master
 
 -- an operation that is tried once
 abbrev pub is_no_poll : Op → Bool
-is_no_poll (Poll space address mask value tries) = false
+is_no_poll (Poll space address want tries) = false
 is_no_poll other = true
 
 -- a master that polls nothing

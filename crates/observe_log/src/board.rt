@@ -133,4 +133,6 @@ fn is_operation(word: &[u8]) -> bool
         || is_word(word, b"cfw")
         || is_word(word, b"poll")
         || is_word(word, b"iopoll")
+        || is_word(word, b"pollnot")
+        || is_word(word, b"iopollnot")
 }

@@ -1,7 +1,7 @@
 -- What of a line is pointed at.
-use Rattle.std.specs.Prelude.{ℕ, Bool, ◌+◌, ◌-◌, List, length, Option, Some, None, not, position, slice_get, unwrap_or}
-use Rattle.board_text.specs.Lines.{is_allowed}
-use Rattle.board_text.specs.Tokens.{tokens_of}
+use Rattle.std.specs.Prelude.{ℕ, Bool, ◌+◌, ◌-◌, List, length, Option, Some, None, not, position, slice_get}
+use Rattle.board_text.specs.Lines.{is_allowed, is_allowed_comment}
+use Rattle.board_text.specs.Tokens.{uncommented, comment_of, tokens_of}
 use Rattle.board_text.specs.declared.tokens.Token.{Token}
 use Rattle.text_faults.specs.declared.board_line.LineFault.{LineFault}
 use Rattle.text_faults.specs.declared.board_line.LineFault.TheVariants as faults
@@ -21,9 +21,23 @@ named_spot faults.NameUsed = Some (Word 1)
 named_spot faults.BusUsed = Some (Word 1)
 named_spot _ = None
 
--- a byte that no line may have
+-- a byte that may not stand before a comment
 abbrev pub is_barred : ℕ → Bool
 is_barred byte = not (is_allowed byte)
+
+-- a byte that may not stand in a comment either
+abbrev pub is_barred_in_comment : ℕ → Bool
+is_barred_in_comment byte = not (is_allowed_comment byte)
+
+-- a place of the comment of a line, in the line; 0 of none
+abbrev pub in_comment : List ℕ → Option ℕ → ℕ
+in_comment line None = 0
+in_comment line (Some place) = length (uncommented line) + place
+
+-- the place before the comment, or else that in it
+abbrev pub or_in_comment : List ℕ → Option ℕ → ℕ
+or_in_comment line None = in_comment line (position is_barred_in_comment (comment_of line))
+or_in_comment line (Some place) = place
 
 -- where a word ends, and one place on; 0 of no word
 abbrev pub behind : Option Token → ℕ
@@ -38,6 +52,6 @@ start_of (Some word) = word.start
 -- the place of a spot in its line; 0 of a word or byte that the line lacks
 abbrev pub place_of : List ℕ → Spot → ℕ
 place_of line BehindLimit = 256
-place_of line BadByte = unwrap_or (position is_barred line) 0
+place_of line BadByte = or_in_comment line (position is_barred (uncommented line))
 place_of line BehindWords = behind (slice_get (tokens_of 0 line) (length (tokens_of 0 line) - 1))
 place_of line (Word place) = start_of (slice_get (tokens_of 0 line) place)

@@ -7,7 +7,7 @@ pub static LINE_PAGES: [Page; 19] = [
         code: "L1",
         fault: Fault::Line(LineFault::BadByte),
         rule: "A line of a board text has tabs and the bytes from 20 to 7e, the printing characters of\n\
-            ASCII. A comment may have no other byte either.",
+            ASCII. Its comment may have bytes from 80 to ff too, as those of UTF-8.",
         example: "pciboard 1\n\
             master caf\u{e9} on 0\n",
     },
@@ -60,8 +60,9 @@ pub static LINE_PAGES: [Page; 19] = [
     Page {
         code: "P4",
         fault: Fault::Line(LineFault::TooMany),
-        rule: "A line has no word behind those of its form. The options of a `bridge` or `header` line\n\
-            stand in one order, each at most once, so one that comes too late is too many as well.",
+        rule: "A line has no word behind those of its form; behind a read `is VALUE` or `any` may\n\
+            stand. The options of a `bridge` or `header` line stand in one order, each at most once,\n\
+            so one that comes too late is too many as well.",
         example: "pciboard 1\n\
             master cpu on 0 now\n",
     },

@@ -24,7 +24,7 @@ pub static LOG_PAGES: [Page; 10] = [
         code: "G2",
         fault: Fault::Log(LogLineFault::Misread),
         rule: "A line of a log is START-END BUS WHO COMMAND ADDRESS WORD.. RESULT, in at most \
-            256 bytes of ASCII.\n\
+            256 bytes.\n\
             START is not above END, COMMAND is one of mr, mrl, mrm, ior, cfr, mw, mwi, iow and \
             cfw, ADDRESS is\n\
             a multiple of 4, and RESULT is done, retry, tabort or nobody. A WORD stands where \

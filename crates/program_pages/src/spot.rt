@@ -1,7 +1,9 @@
 ghost use Rattle.std.specs.Prelude.{◌≡◌, ◌<◌, ◌^◌, length, position, IfOk};
-ghost use Rattle.program_pages.specs.Spots.{named_spot, place_of, is_barred, behind, start_of};
+ghost use Rattle.std.specs.Prelude.{IfSome};
+ghost use Rattle.program_pages.specs.Spots.{named_spot, place_of, behind, start_of};
+ghost use Rattle.program_pages.specs.Spots.{is_barred, is_barred_in_comment};
 
-use board_text::{Token, tokens_of};
+use board_text::{Token, is_allowed, is_allowed_comment, length_before_comment, tokens_of};
 use pci_command::NoMemory;
 use std::alloc::Global;
 use text_faults::LineFault;
@@ -11,7 +13,7 @@ use text_faults::LineFault;
 pub enum Spot {
     /// The byte behind the 256 that a line may have.
     BehindLimit,
-    /// The first byte that no line may have.
+    /// The first byte that may not stand where it stands.
     BadByte,
     /// What is behind the last word.
     BehindWords,
@@ -40,7 +42,7 @@ pub fn place_of(alloc: Global, line: &[u8], spot: Spot) -> Result<usize, NoMemor
 {
     match spot {
         Spot::BehindLimit => Ok(256), // not a limit
-        Spot::BadByte => Ok(first_bad_byte(line).unwrap_or(0)),
+        Spot::BadByte => Ok(first_bad_byte(line)),
         Spot::BehindWords => {
             let words = tokens_of(alloc, line, 0)?;
             Ok(behind(words.as_slice().last().copied()))
@@ -52,17 +54,31 @@ pub fn place_of(alloc: Global, line: &[u8], spot: Spot) -> Result<usize, NoMemor
     }
 }
 
-fn first_bad_byte(line: &[u8]) -> Option<usize>
-    ensures { result ≡ position is_barred line.now }
+/// The place of the first byte that may not stand where it stands, or 0.
+fn first_bad_byte(line: &[u8]) -> usize
+    ensures { result ≡ place_of line.now Spot.BadByte }
 {
-    line.iter().position(|byte| is_barred(*byte))
+    let (text, comment) = line.split_at(length_before_comment(line));
+    match first_barred(text) {
+        Some(place) => place,
+        None => match first_barred_in_comment(comment) {
+            Some(place) => text.len() + place,
+            None => 0,
+        },
+    }
 }
 
-/// Whether no line may have this byte.
-fn is_barred(byte: u8) -> bool
-    ensures { result ≡ is_barred byte }
+fn first_barred(text: &[u8]) -> Option<usize>
+    ensures value { result ≡ position is_barred text.now }
 {
-    byte != b'\t' && !(b' '..=b'~').contains(&byte)
+    text.iter().position(|byte| !is_allowed(*byte))
+}
+
+fn first_barred_in_comment(comment: &[u8]) -> Option<usize>
+    ensures value { result ≡ position is_barred_in_comment comment.now }
+    ensures within { IfSome result (λ place. place < length comment.now) }
+{
+    comment.iter().position(|byte| !is_allowed_comment(*byte))
 }
 
 /// One place on from where a word ends.

@@ -5,6 +5,7 @@ use Rattle.std.specs.Option.{option_map}
 use Rattle.std.specs.Fmt.{decimal}
 use Rattle.pci_command.specs.declared.op_id.OpId.{OpId}
 use Rattle.pci_command.specs.declared.op_id.Outcome.{Outcome}
+use Rattle.board_model.specs.declared.op.Want.{Want}
 use Rattle.board_model.specs.declared.agents.Master.{Master as MasterAgent}
 use Rattle.board_model.specs.declared.op.Op.{Op}
 use Rattle.board_model.specs.declared.op.Op.TheVariants.{Read as ReadOp, Write, CfgRead, CfgWrite, Poll}
@@ -36,18 +37,18 @@ lost_by MasterAbort = Some Nobody
 lost_by TargetAbort = Some Abort
 
 -- a try of a poll that ended so: spent where that does not meet it
-abbrev pub spent_after : ℕ → ℕ → ℕ → Option Outcome → Option Lapse
-spent_after mask wanted tries None = None
-spent_after mask wanted tries (Some outcome) = if meets mask wanted outcome then None else Some (Spent tries)
+abbrev pub spent_after : Want → ℕ → Option Outcome → Option Lapse
+spent_after want tries None = None
+spent_after want tries (Some outcome) = if meets want outcome then None else Some (Spent tries)
 
 -- the same by the step with which a try ended, if it ended it
-abbrev pub spent_by : ℕ → ℕ → ℕ → Step → Option Lapse
-spent_by mask wanted tries step = spent_after mask wanted tries (master_outcome step)
+abbrev pub spent_by : Want → ℕ → Step → Option Lapse
+spent_by want tries step = spent_after want tries (master_outcome step)
 
 -- the same of the last try, which ends at its master
-abbrev pub last_by : OpId → By → ℕ → ℕ → ℕ → Step → Option Lapse
-last_by o (Lane lane) mask wanted tries step = None
-last_by o Master mask wanted tries step = if o.attempt == tries - 1 then spent_by mask wanted tries step else None
+abbrev pub last_by : OpId → By → Want → ℕ → Step → Option Lapse
+last_by o (Lane lane) want tries step = None
+last_by o Master want tries step = if o.attempt == tries - 1 then spent_by want tries step else None
 
 -- what an act says of its operation
 abbrev pub lapse_of : OpId → By → Step → Option Op → Option Lapse
@@ -56,7 +57,7 @@ lapse_of o by step (Some (ReadOp command address)) = None
 lapse_of o by step (Some (Write command address phases)) = lost_by step
 lapse_of o by step (Some (CfgRead bus device register)) = None
 lapse_of o by step (Some (CfgWrite bus device register phase)) = lost_by step
-lapse_of o by step (Some (Poll space address mask wanted tries)) = last_by o by mask wanted tries step
+lapse_of o by step (Some (Poll space address want tries)) = last_by o by want tries step
 
 -- what an event tells, with its operation
 abbrev pub lapse_told : Board → Event → Option Lapsed

@@ -4,7 +4,7 @@ ghost use Rattle.std.specs.Option.{option_map, option_copied};
 ghost use Rattle.run_report.specs.Lapses.{lost_by, spent_by, lapse_of, lapse_told, is_by, is_of};
 ghost use Rattle.run_report.specs.Lapses.{lapse_line, program_lapses, lapses_text};
 
-use board_model::{Board, Master, Op, op_of};
+use board_model::{Board, Master, Op, Want, op_of};
 use history_model::{By, Event, Step};
 use pci_command::{OpId, Outcome};
 use std::alloc::{AllocError, Global};
@@ -71,14 +71,9 @@ fn lapse_of(op: OpId, by: By, step: Step, told: Option<&Op>) -> Option<Lapse>
         Some(told) => match told {
             Op::Read { .. } | Op::CfgRead { .. } => None,
             Op::Write { .. } | Op::CfgWrite { .. } => lost_by(step),
-            Op::Poll {
-                mask,
-                value,
-                tries,
-                ..
-            } => {
+            Op::Poll { want, tries, .. } => {
                 if by == By::Master && op.attempt == tries.saturating_sub(1) {
-                    spent_by(*mask, *value, *tries, step)
+                    spent_by(*want, *tries, step)
                 } else {
                     None
                 }
@@ -103,12 +98,12 @@ fn lost_by(step: Step) -> Option<Lapse>
     }
 }
 
-fn spent_by(mask: u32, wanted: u32, tries: u32, step: Step) -> Option<Lapse>
-    ensures { result ≡ spent_by mask wanted tries step }
+fn spent_by(want: Want, tries: u32, step: Step) -> Option<Lapse>
+    ensures { result ≡ spent_by want tries step }
 {
     match step {
         Step::Part(_) | Step::Latch | Step::Stall => None,
-        Step::Read(value) | Step::Take(Outcome::Value(value)) if value & mask == wanted => None,
+        Step::Read(value) | Step::Take(Outcome::Value(value)) if want.is_met_by(value) => None,
         Step::Land
         | Step::Read(_)
         | Step::Accept

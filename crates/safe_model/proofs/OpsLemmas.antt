@@ -64,9 +64,9 @@ write_tries (ReadOp command address) other = refl
 write_tries (Write command address phases) other = refl
 write_tries (CfgRead bus device register) other = refl
 write_tries (CfgWrite bus device register phase) other = refl
-write_tries (Poll Mem address mask value tries) other = cc
-write_tries (Poll Io address mask value tries) other = cc
-write_tries (Poll Cfg address mask value tries) other = cc
+write_tries (Poll Mem address want tries) other = cc
+write_tries (Poll Io address want tries) other = cc
+write_tries (Poll Cfg address want tries) other = cc
 
 -- a write that is there
 pub write_listed : (board : Board) (w : OpId) → is_write board w ≡ true → list_any (same_op w) (ops_by 0 board.masters) ≡ true

@@ -3,6 +3,7 @@ use Rattle.std.specs.Prelude.{◌≡◌, ◌≢◌, ℕ, Bool, true, false, zero
 use Rattle.pci_command.specs.declared.command.Space.{Space}
 use Rattle.pci_command.specs.declared.op_id.OpId.{OpId}
 use Rattle.pci_command.specs.Same.{same_op}
+use Rattle.board_model.specs.declared.op.Want.{Want}
 use Rattle.board_model.specs.declared.op.Op.{Op}
 use Rattle.board_model.specs.declared.op.Op.TheVariants.{Read, Write, CfgRead, CfgWrite, Poll}
 use Rattle.board_model.specs.declared.board.Board.{Board}
@@ -30,7 +31,7 @@ is_poll (Some (Read command address)) = false
 is_poll (Some (Write command address phases)) = false
 is_poll (Some (CfgRead bus device register)) = false
 is_poll (Some (CfgWrite bus device register phase)) = false
-is_poll (Some (Poll space address mask wanted tries)) = true
+is_poll (Some (Poll space address want tries)) = true
 
 -- the first try of the operation at a place of a program
 abbrev pub at_place : ℕ → ℕ → OpId
@@ -92,9 +93,9 @@ pub record LeftOut (board : Board) (table : Table) (p : OpId) (word : Dword) (f 
   pub no_more : LandsNoMore board table f x
 
 -- the poll is not met by what the word opens as: that is no such value, or a write of the word comes before the poll
-abbrev pub OpensOut : Board → Table → OpId → ℕ → ℕ → Dword → Type 0
-OpensOut board table p mask wanted word =
-    (is_met_by mask wanted (opens_as board word) ≡ false) ⊎ ((x : OpId) × WritesBefore board table p word x)
+abbrev pub OpensOut : Board → Table → OpId → Want → Dword → Type 0
+OpensOut board table p want word =
+    (is_met_by want (opens_as board word) ≡ false) ⊎ ((x : OpId) × WritesBefore board table p word x)
 
 -- Which tables are right.
 
@@ -104,25 +105,25 @@ RaiserKnows board table p word other f =
     LeftOut board table p word f ⊎ (table p.master p.index other ≤ clock_with board table f other)
 
 -- a poll is firm, and not met by what its word opens as; and each of its raisers knows, or is left out
-abbrev pub RaisersKnow : Board → Table → OpId → ℕ → ℕ → ℕ → Type 0
-RaisersKnow board table p mask wanted other =
-    (word : Dword) × Firm board p mask wanted word × OpensOut board table p mask wanted word
-    × ((f : OpId) → Raises board mask wanted word f → RaiserKnows board table p word other f)
+abbrev pub RaisersKnow : Board → Table → OpId → Want → ℕ → Type 0
+RaisersKnow board table p want other =
+    (word : Dword) × Firm board p want word × OpensOut board table p want word
+    × ((f : OpId) → Raises board want word f → RaiserKnows board table p word other f)
 
 -- what a table says of a poll and a master is known behind it: it was known before, or by all that can meet the poll
-abbrev pub IsKnown : Board → Table → OpId → ℕ → ℕ → ℕ → Type 0
-IsKnown board table p mask wanted other =
-    (table p.master p.index other ≤ clock_of board table p other) ⊎ RaisersKnow board table p mask wanted other
+abbrev pub IsKnown : Board → Table → OpId → Want → ℕ → Type 0
+IsKnown board table p want other =
+    (table p.master p.index other ≤ clock_of board table p other) ⊎ RaisersKnow board table p want other
 
--- an operation is a try of a poll for the wanted value under the mask
-abbrev pub Awaits : Board → OpId → ℕ → ℕ → Type 0
-Awaits board p mask wanted =
-    (space : Space) × (address : ℕ) × (tries : ℕ) × (op_of board p ≡ Some (Poll space address mask wanted tries))
+-- an operation is a try of a poll that waits for this
+abbrev pub Awaits : Board → OpId → Want → Type 0
+Awaits board p want =
+    (space : Space) × (address : ℕ) × (tries : ℕ) × (op_of board p ≡ Some (Poll space address want tries))
 
 -- a table says of no poll more than is known behind it
 abbrev pub IsConsistent : Board → Table → Type 0
 IsConsistent board table =
-    (p : OpId) (mask wanted : ℕ) → Awaits board p mask wanted → (other : ℕ) → IsKnown board table p mask wanted other
+    (p : OpId) (want : Want) → Awaits board p want → (other : ℕ) → IsKnown board table p want other
 
 -- of two tables, of each poll and each master the greater number
 abbrev pub greater_of : Table → Table → Table

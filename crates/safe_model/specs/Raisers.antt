@@ -7,6 +7,7 @@ use Rattle.pci_command.specs.declared.phases.Phase.{Phase}
 use Rattle.pci_command.specs.declared.op_id.OpId.{OpId}
 use Rattle.pci_command.specs.declared.op_id.Outcome.TheVariants.{Value}
 use Rattle.pci_command.specs.Same.{same_space}
+use Rattle.board_model.specs.declared.op.Want.{Want}
 use Rattle.board_model.specs.declared.op.Op.{Op}
 use Rattle.board_model.specs.declared.board.Board.{Board}
 use Rattle.board_model.specs.Requests.{op_of, phases_of}
@@ -36,21 +37,21 @@ abbrev pub phases_to : Board → Dword → OpId → List Phase
 phases_to board word w =
     if is_write board w then phases_for word (words_named board w) (phases_in (op_of board w)) else []
 
--- the value is the wanted one under the mask
-abbrev pub is_met_by : ℕ → ℕ → ℕ → Bool
-is_met_by mask wanted value = meets mask wanted (Value value)
+-- the value is one that is waited for
+abbrev pub is_met_by : Want → ℕ → Bool
+is_met_by want value = meets want (Value value)
 
 -- a data phase enables all bytes that the mask looks at
 abbrev pub is_whole : ℕ → Phase → Bool
 is_whole mask phase = bit_and (bit_and (enabled_bits phase.enables) 0xffff_ffff) mask == mask
 
 -- a data phase that is whole brings a value that meets the poll
-abbrev pub brings_met : ℕ → ℕ → Phase → Bool
-brings_met mask wanted phase = is_met_by mask wanted (bit_and phase.value 0xffff_ffff)
+abbrev pub brings_met : Want → Phase → Bool
+brings_met want phase = is_met_by want (bit_and phase.value 0xffff_ffff)
 
 -- a write brings the word a value that meets the poll
-abbrev pub Raises : Board → ℕ → ℕ → Dword → OpId → Type 0
-Raises board mask wanted word f = list_any (brings_met mask wanted) (phases_to board word f) ≡ true
+abbrev pub Raises : Board → Want → Dword → OpId → Type 0
+Raises board want word f = list_any (brings_met want) (phases_to board word f) ≡ true
 
 -- in memory or I/O space, where a write changes all bits of the bytes that are enabled
 abbrev pub is_plain : Space → Bool
@@ -65,8 +66,8 @@ IsLastWord board word f = (earlier : List Dword) × (words_named board f ≡ ear
 -- a poll of which it is known what may meet it (one that is not firm is loose): it has a word; every write there writes
 -- all that the mask looks at, so that the poll sees what landed last; and what meets it is the last of its write, so
 -- that the write had landed whole
-pub record Firm (board : Board) (p : OpId) (mask wanted : ℕ) (word : Dword) : Type 0 where
+pub record Firm (board : Board) (p : OpId) (want : Want) (word : Dword) : Type 0 where
   pub has_word : words_named board p ≡ word ∷ []
   pub plain : is_plain word.space ≡ true
-  pub whole : (f : OpId) → list_all (is_whole mask) (phases_to board word f) ≡ true
-  pub last : (f : OpId) → Raises board mask wanted word f → IsLastWord board word f
+  pub whole : (f : OpId) → list_all (is_whole want.mask) (phases_to board word f) ≡ true
+  pub last : (f : OpId) → Raises board want word f → IsLastWord board word f

@@ -52,9 +52,9 @@ untold_some board table p (Read command address) word is poll words untold = cc
 untold_some board table p (Write command address phases) word is poll words untold = cc
 untold_some board table p (CfgRead bus device register) word is poll words untold = cc
 untold_some board table p (CfgWrite bus device register phase) word is poll words untold = cc
-untold_some board table p (Poll space address mask wanted tries) word is poll words untold =
-    let op : Op = Poll space address mask wanted tries in
-    let wish : Wish = record { word = dword word; mask = mask; wanted = wanted } in
+untold_some board table p (Poll space address want tries) word is poll words untold =
+    let op : Op = Poll space address want tries in
+    let wish : Wish = record { word = dword word; want = want } in
     let named : words_named board p ≡ dword word ∷ [] = named_there board p op (Some word) is words in
     let there : wish_of board p ≡ Some wish = ap (λ ws. wish_in ws (op_of board p)) named ∙ ap (wish_in (dword word ∷ [])) is in
     ap (said_of_poll board table p op) there ∙ untold_wish board table p op wish (subst (λ found. is_told board table p found ≡ false) there untold)

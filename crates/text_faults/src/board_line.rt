@@ -14,7 +14,7 @@ pub enum Family {
 /// What is wrong with a line of a board text.
 #[derive(Clone, Copy, Debug, PartialEq, Eq, Error)]
 pub enum LineFault {
-    #[error("a byte that no line may have")]
+    #[error("a byte that may not stand where it is")]
     BadByte,
     #[error("a number with too many digits")]
     TooWide,

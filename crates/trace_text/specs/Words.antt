@@ -39,7 +39,7 @@ is_poll (Read command address) = false
 is_poll (Write command address phases) = false
 is_poll (CfgRead bus device register) = false
 is_poll (CfgWrite bus device register phase) = false
-is_poll (Poll space address mask value tries) = true
+is_poll (Poll space address want tries) = true
 
 -- the same of an operation of the board
 abbrev pub names_poll : Board → OpId → Bool

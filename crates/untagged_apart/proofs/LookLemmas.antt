@@ -25,14 +25,14 @@ fixed_address (Read command address) bus none = refl
 fixed_address (Write command address phases) bus none = refl
 fixed_address (CfgRead on device register) bus none = cc
 fixed_address (CfgWrite on device register phase) bus none = cc
-fixed_address (Poll space address mask value tries) bus none = refl
+fixed_address (Poll space address want tries) bus none = refl
 
 register_address : (op : Op) (a : Register) (bus : ℕ) → register_in op ≡ Some a → address_on op bus ≡ configuration_address bus a.bus a.device a.number
 register_address (Read command address) a bus is = cc
 register_address (Write command address phases) a bus is = cc
 register_address (CfgRead on device register) a bus is = cc
 register_address (CfgWrite on device register phase) a bus is = cc
-register_address (Poll space address mask value tries) a bus is = cc
+register_address (Poll space address want tries) a bus is = cc
 
 -- so other addresses on one are other addresses on all
 pub fixed_differ : (op other : Op) → register_in op ≡ None → register_in other ≡ None → address_in op ≢ address_in other → OtherAddress op other

@@ -46,7 +46,7 @@ register_in (Read command address) = None
 register_in (Write command address phases) = None
 register_in (CfgRead bus device register) = Some (record { bus = bus; device = device; number = register })
 register_in (CfgWrite bus device register phase) = Some (record { bus = bus; device = device; number = register })
-register_in (Poll space address mask value tries) = None
+register_in (Poll space address want tries) = None
 
 -- the address of any other
 abbrev pub address_in : Op → ℕ
@@ -54,4 +54,4 @@ address_in (Read command address) = address
 address_in (Write command address phases) = address
 address_in (CfgRead bus device register) = 0
 address_in (CfgWrite bus device register phase) = 0
-address_in (Poll space address mask value tries) = address
+address_in (Poll space address want tries) = address

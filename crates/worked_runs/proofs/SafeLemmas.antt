@@ -8,6 +8,8 @@ use Rattle.pci_command.specs.declared.command.Command.TheVariants.{MemRead, MemW
 use Rattle.pci_command.specs.declared.command.Space.TheVariants.{Mem}
 use Rattle.pci_command.specs.declared.phases.Phase.{Phase}
 use Rattle.pci_command.specs.declared.op_id.OpId.{OpId}
+use Rattle.board_model.specs.Wants.{exactly}
+use Rattle.board_model.specs.declared.op.Want.{Want}
 use Rattle.board_model.specs.declared.agents.Master.{Master as MasterAgent}
 use Rattle.board_model.specs.declared.op.Op.{Op}
 use Rattle.board_model.specs.declared.op.Op.TheVariants.{Read as ReadOp, Write as WriteOp, Poll as PollOp}
@@ -56,7 +58,7 @@ module _ (board : Board) (s : Shape) where
   flag_write = WriteOp MemWrite s.flag_at (s.raising ∷ [])
 
   abbrev pub flag_poll : Op
-  flag_poll = PollOp Mem s.flag_at 0xffffffff 0x1 9
+  flag_poll = PollOp Mem s.flag_at (exactly 0x1) 9
 
   abbrev pub data_read : Op
   data_read = ReadOp MemRead s.data_at
@@ -77,7 +79,7 @@ module _ (board : Board) (s : Shape) where
     pub of_read : phases_to board s.flag_word (op 1 1 0) ≡ []
     pub whole : is_whole 0xffffffff s.raising ≡ true
     pub last : words_named board (op 0 1 0) ≡ s.flag_word ∷ []
-    pub opens : is_met_by 0xffffffff 1 (opens_as board s.flag_word) ≡ false
+    pub opens : is_met_by (exactly 1) (opens_as board s.flag_word) ≡ false
     pub knows : 2 ≤ clock_with board flag_table (op 0 1 0) 0
 
   -- and of the data
@@ -130,11 +132,11 @@ module _ (board : Board) (s : Shape) where
       subst F (sym writes) here
 
   abbrev RaisesIt : OpId → Type 0
-  RaisesIt f = Raises board 0xffffffff 1 s.flag_word f
+  RaisesIt f = Raises board (exactly 1) s.flag_word f
 
   not_raised : (X : Type 0) (f : OpId) → phases_to board s.flag_word f ≡ [] → RaisesIt f → X
   not_raised X f none raises =
-      let e : false ≡ true = sym (ap (list_any (brings_met 0xffffffff 1)) none) ∙ raises in
+      let e : false ≡ true = sym (ap (list_any (brings_met (exactly 1))) none) ∙ raises in
       cc
 
   module _ (facts : FlagFacts) where
@@ -174,7 +176,7 @@ module _ (board : Board) (s : Shape) where
         (λ a there raises. not_raised (Knows (op 1 0 a)) (op 1 0 a) (poll_brings a there) raises) (λ raises. not_raised (Knows (op 1 1 0)) (op 1 1 0) facts.of_read raises)
         (λ o none raises. not_raised (Knows o) o (none_brings o none) raises)
 
-    known : (attempt : ℕ) → op_of board (op 1 0 attempt) ≡ Some flag_poll → (other : ℕ) → IsKnown board flag_table (op 1 0 attempt) 0xffffffff 1 other
+    known : (attempt : ℕ) → op_of board (op 1 0 attempt) ≡ Some flag_poll → (other : ℕ) → IsKnown board flag_table (op 1 0 attempt) (exactly 1) other
     known attempt is zero = inr (s.flag_word, firm attempt is, inl facts.opens, raisers attempt)
     known attempt is (suc other) =
         let none : eqb (suc other) 0 ≡ false = grind (arith, nat_tests) in
@@ -183,11 +185,11 @@ module _ (board : Board) (s : Shape) where
         inl (subst F (sym none) here)
 
     abbrev AllKnown : OpId → Type 0
-    AllKnown p = (mask wanted : ℕ) → Awaits board p mask wanted → (other : ℕ) → IsKnown board flag_table p mask wanted other
+    AllKnown p = (want : Want) → Awaits board p want → (other : ℕ) → IsKnown board flag_table p want other
 
     -- what is no poll awaits nothing
     no_await : (p : OpId) (found : Option Op) → op_of board p ≡ found → is_poll found ≡ false → AllKnown p
-    no_await p found is none mask wanted awaits other =
+    no_await p found is none want awaits other =
         let e : true ≡ false = sym (ap is_poll awaits.3) ∙ ap is_poll is ∙ none in
         cc
 
@@ -196,12 +198,11 @@ module _ (board : Board) (s : Shape) where
     consistent =
         each_op facts.programs AllKnown (no_await (op 0 0 0) (Some data_write) (op_is facts.programs (op 0 0 0) (Some data_write) refl) refl)
         (no_await (op 0 1 0) (Some flag_write) (op_is facts.programs (op 0 1 0) (Some flag_write) refl) refl)
-        (λ attempt is mask wanted awaits other.
-        let e : Some flag_poll ≡ Some (PollOp awaits.0 awaits.1 mask wanted awaits.2) = sym is ∙ awaits.3 in
-        let masks : 0xffffffff ≡ mask = cc in
-        let values : 1 ≡ wanted = cc in
-        let F : ℕ → ℕ → Type 0 = λ m w. IsKnown board flag_table (op 1 0 attempt) m w other in
-        subst (λ m. F m wanted) masks (subst (F 0xffffffff) values (known attempt is other)))
+        (λ attempt is want awaits other.
+        let e : Some flag_poll ≡ Some (PollOp awaits.0 awaits.1 want awaits.2) = sym is ∙ awaits.3 in
+        let same : exactly 1 ≡ want = cc in
+        let F : Want → Type 0 = λ w. IsKnown board flag_table (op 1 0 attempt) w other in
+        subst F same (known attempt is other))
         (no_await (op 1 1 0) (Some data_read) (op_is facts.programs (op 1 1 0) (Some data_read) refl) refl) (λ o none. no_await o None none refl)
 
   -- and the read is safe

@@ -4,6 +4,7 @@ use Rattle.pci_command.specs.declared.command.Command.TheVariants.{MemRead, MemW
 use Rattle.pci_command.specs.declared.command.Space.TheVariants.{Mem}
 use Rattle.pci_command.specs.declared.op_id.OpId.{OpId}
 use Rattle.pci_command.specs.declared.op_id.Outcome.TheVariants.{Value}
+use Rattle.board_model.specs.Wants.{exactly}
 use Rattle.board_model.specs.declared.bridge.Place.TheVariants.{Target, Lane}
 use Rattle.board_model.specs.declared.op.Op.TheVariants.{Read as ReadOp, Write as WriteOp, Poll as PollOp}
 use Rattle.board_model.specs.declared.board.Board.{Board}
@@ -48,7 +49,7 @@ flag_board =
           record {
             name = codes "cons";
             bus = 2;
-            ops = PollOp Mem 0x80000000 0xffffffff 0x1 9 ∷ ReadOp MemRead 0x10000000 ∷ [];
+            ops = PollOp Mem 0x80000000 (exactly 0x1) 9 ∷ ReadOp MemRead 0x10000000 ∷ [];
           } ∷ [];
       discards = [];
       drops = [];

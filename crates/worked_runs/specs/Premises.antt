@@ -3,6 +3,7 @@ use Rattle.std.specs.Prelude.{ℕ, false, List, [], ◌∷◌, take, codes}
 use Rattle.pci_command.specs.declared.command.Command.TheVariants.{MemRead, MemWrite}
 use Rattle.pci_command.specs.declared.command.Space.TheVariants.{Mem}
 use Rattle.pci_command.specs.declared.op_id.OpId.{OpId}
+use Rattle.board_model.specs.Wants.{exactly}
 use Rattle.board_model.specs.declared.board.Board.{Board}
 use Rattle.board_model.specs.declared.bridge.Lane.{Lane as BridgeLane}
 use Rattle.board_model.specs.declared.op.Op.{Op}
@@ -84,7 +85,7 @@ flagged_board opening =
           record {
             name = codes "cons";
             bus = 0;
-            ops = PollOp Mem 0x10000040 0xffffffff 0x1 9 ∷ ReadOp MemRead 0x10000000 ∷ [];
+            ops = PollOp Mem 0x10000040 (exactly 0x1) 9 ∷ ReadOp MemRead 0x10000000 ∷ [];
           } ∷ [];
       discards = [];
       drops = [];

@@ -3,6 +3,7 @@ use Rattle.std.specs.Prelude.{ℕ, List, [], ◌∷◌, codes}
 use Rattle.pci_command.specs.declared.command.Command.TheVariants.{MemRead, MemWrite}
 use Rattle.pci_command.specs.declared.command.Space.TheVariants.{Mem}
 use Rattle.pci_command.specs.declared.op_id.OpId.{OpId}
+use Rattle.board_model.specs.Wants.{exactly}
 use Rattle.board_model.specs.declared.bridge.Place.TheVariants.{Target}
 use Rattle.board_model.specs.declared.op.Op.TheVariants.{Read as ReadOp, Write as WriteOp, Poll as PollOp}
 use Rattle.board_model.specs.declared.board.Board.{Board}
@@ -42,12 +43,12 @@ relay_board =
           record {
             name = codes "b";
             bus = 0;
-            ops = PollOp Mem 0x10000040 0xffffffff 0x1 9 ∷ WriteOp MemWrite 0x10000080 (record { value = 0x1; enables = 15 } ∷ []) ∷ [];
+            ops = PollOp Mem 0x10000040 (exactly 0x1) 9 ∷ WriteOp MemWrite 0x10000080 (record { value = 0x1; enables = 15 } ∷ []) ∷ [];
           } ∷
           record {
             name = codes "c";
             bus = 0;
-            ops = PollOp Mem 0x10000080 0xffffffff 0x1 9 ∷ ReadOp MemRead 0x10000000 ∷ [];
+            ops = PollOp Mem 0x10000080 (exactly 0x1) 9 ∷ ReadOp MemRead 0x10000000 ∷ [];
           } ∷ [];
       discards = [];
       drops = [];

@@ -4,6 +4,7 @@ use Rattle.pci_command.specs.declared.command.Command.TheVariants.{IoRead, IoWri
 use Rattle.pci_command.specs.declared.command.Space.TheVariants.{Io}
 use Rattle.pci_command.specs.declared.op_id.OpId.{OpId}
 use Rattle.pci_command.specs.declared.op_id.Outcome.TheVariants.{Written}
+use Rattle.board_model.specs.Wants.{exactly}
 use Rattle.board_model.specs.declared.bridge.Place.TheVariants.{Target, Lane}
 use Rattle.board_model.specs.declared.op.Op.TheVariants.{Read as ReadOp, Write as WriteOp, Poll as PollOp}
 use Rattle.board_model.specs.declared.board.Board.{Board}
@@ -37,7 +38,7 @@ again_board =
           record {
             name = codes "near";
             bus = 1;
-            ops = PollOp Io 0x1000 0xffffffff 0x1 9 ∷ WriteOp IoWrite 0x1000 (record { value = 0x2; enables = 15 } ∷ []) ∷ ReadOp IoRead 0x1000 ∷ [];
+            ops = PollOp Io 0x1000 (exactly 0x1) 9 ∷ WriteOp IoWrite 0x1000 (record { value = 0x2; enables = 15 } ∷ []) ∷ ReadOp IoRead 0x1000 ∷ [];
           } ∷ [];
     }
 

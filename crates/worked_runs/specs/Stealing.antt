@@ -4,6 +4,7 @@ use Rattle.pci_command.specs.declared.command.Command.TheVariants.{MemRead, MemW
 use Rattle.pci_command.specs.declared.command.Space.TheVariants.{Mem}
 use Rattle.pci_command.specs.declared.op_id.OpId.{OpId}
 use Rattle.pci_command.specs.declared.op_id.Outcome.TheVariants.{Value}
+use Rattle.board_model.specs.Wants.{exactly}
 use Rattle.board_model.specs.declared.bridge.Place.TheVariants.{Target, Lane}
 use Rattle.board_model.specs.declared.op.Op.TheVariants.{Read as ReadOp, Write as WriteOp, Poll as PollOp}
 use Rattle.board_model.specs.declared.board.Board.{Board}
@@ -63,7 +64,7 @@ stealing_board =
           record {
             name = codes "late";
             bus = 2;
-            ops = PollOp Mem 0x80000000 0xffffffff 0x1 40 ∷ ReadOp MemRead 0x10000000 ∷ [];
+            ops = PollOp Mem 0x80000000 (exactly 0x1) 40 ∷ ReadOp MemRead 0x10000000 ∷ [];
           } ∷ [];
       discards = [];
       drops = [];

@@ -175,7 +175,7 @@ op_is (Read command address) write some = cc
 op_is (Write command address phases) write some = of_command command address phases write some
 op_is (CfgRead bus device register) write some = cc
 op_is (CfgWrite bus device register phase) write some = cc
-op_is (Poll space address mask value tries) write some = cc
+op_is (Poll space address want tries) write some = cc
 
 pub Cheaper-joined : (board : Board) (on : ℕ) (p q joined : Op) → list_all is_well_formed_bridge board.bridges ≡ true → list_all is_well_formed_target board.targets ≡ true
     → Joins board p q joined → is_well_formed_op p ≡ true → is_well_formed_op q ≡ true → Cheaper board on p q joined

@@ -110,7 +110,7 @@ stays_alike (CfgRead bus device register) on other None = refl
 stays_alike (CfgRead bus device register) on other (Some bridge) = refl
 stays_alike (CfgWrite bus device register phase) on other None = refl
 stays_alike (CfgWrite bus device register phase) on other (Some bridge) = refl
-stays_alike (Poll space address mask value tries) on other bridge = refl
+stays_alike (Poll space address want tries) on other bridge = refl
 
 -- a bridge that is found is one of the board, and where no two have one number it is found by its number
 found_is_there : (test : Bridge → Bool) (bridges : List Bridge) (bridge : Bridge) → find test bridges ≡ Some bridge → list_any (has_bus bridge.bus) bridges ≡ true

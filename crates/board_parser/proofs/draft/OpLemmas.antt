@@ -33,6 +33,6 @@ op_formed (Read command address) formed aligned within = read_formed address (re
 op_formed (Write command address phases) formed aligned within = write_formed address phases (write_space command) formed aligned within
 op_formed (CfgRead bus device register) formed aligned within = formed
 op_formed (CfgWrite bus device register phase) formed aligned within = formed
-op_formed (Poll space address mask value tries) formed aligned within =
+op_formed (Poll space address want tries) formed aligned within =
     let parts = and_parts _ _ formed in
     and_from _ _ (dword_by space address parts.0 aligned) parts.1

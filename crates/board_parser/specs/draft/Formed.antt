@@ -69,7 +69,7 @@ is_formed_op (Read command address) = is_formed_read address (read_space command
 is_formed_op (Write command address phases) = is_formed_write address phases (write_space command)
 is_formed_op (CfgRead bus device register) = nat_le device 31 && nat_le register 63
 is_formed_op (CfgWrite bus device register phase) = nat_le device 31 && nat_le register 63 && is_well_formed_phase phase
-is_formed_op (Poll space address mask value tries) = is_address space address && is_within 1 most_tries tries
+is_formed_op (Poll space address want tries) = is_address space address && is_within 1 most_tries tries
 
 -- a statement as its words give it
 abbrev pub is_formed : Statement → Bool

@@ -40,7 +40,7 @@ is_aligned (Read command address) = address % 4 == 0
 is_aligned (Write command address phases) = address % 4 == 0
 is_aligned (CfgRead bus device register) = true
 is_aligned (CfgWrite bus device register phase) = true
-is_aligned (Poll space address mask value tries) = address % 4 == 0
+is_aligned (Poll space address want tries) = address % 4 == 0
 
 -- the dwords of a write go past the aligned block of 64 bytes in which it begins
 abbrev pub passes_block : Op → Bool
@@ -48,7 +48,7 @@ passes_block (Read command address) = false
 passes_block (Write command address phases) = nat_lt 64 (address % 64 + 4 * length phases)
 passes_block (CfgRead bus device register) = false
 passes_block (CfgWrite bus device register phase) = false
-passes_block (Poll space address mask value tries) = false
+passes_block (Poll space address want tries) = false
 
 -- an operation behind so many in all, each poll counted by its tries: at most 1,024 of one master, and 65,536 in all
 abbrev pub add_op : ℕ → Op → Bool → Master → Result Master LineFault

@@ -3,6 +3,7 @@ use Rattle.std.proofs.Common.{◌≡◌, ℕ, ◌+◌, ◌≤◌, true, false, l
 use Rattle.std.proofs.lemmas.Bool.{le-ltb}
 use Rattle.std.proofs.lemmas.List.{length-append}
 use Rattle.board_text.specs.Lines.{line_fault}
+use Rattle.board_text.proofs.AllowedLemmas.{allowed_line}
 use Rattle.board_printer.specs.Lines.{Line, spaced, line_text}
 use Rattle.board_roundtrip.specs.words.Printed.{has_words_alone, joined}
 use Rattle.board_roundtrip.proofs.lines.WordTexts.{line_of}
@@ -34,4 +35,4 @@ short_joined (word ∷ words) few =
 pub line_is_allowed : (words : Line) (line : List ℕ) → has_words_alone words ≡ true → width words ≤ 257 → line_text words ≡ line ++ 10 ∷ [] → line_fault line ≡ None
 line_is_allowed words line alone few printed =
     let short : ltb 256 (length (joined words)) ≡ false = le-ltb _ _ (short_joined words few) in
-    subst (λ (l : List ℕ). line_fault l ≡ None) (line_of words line printed) (rw (short, joined_allowed words alone) refl)
+    subst (λ (l : List ℕ). line_fault l ≡ None) (line_of words line printed) (rw (short, allowed_line (joined words) (joined_allowed words alone)) refl)

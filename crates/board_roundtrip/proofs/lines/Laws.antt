@@ -87,7 +87,7 @@ decimals_fit (Read command address) fits formed = tt
 decimals_fit (Write command address phases) fits formed = tt
 decimals_fit (CfgRead bus device register) fits formed = (omega arith, grind (arith, nat_tests), grind (arith, nat_tests))
 decimals_fit (CfgWrite bus device register phase) fits formed = (let below = fits.0 in omega arith, grind (arith, nat_tests), grind (arith, nat_tests))
-decimals_fit (Poll space address mask value tries) fits formed = grind (arith, nat_tests)
+decimals_fit (Poll space address want tries) fits formed = grind (arith, nat_tests)
 
 pub op_law : (wide : Bool) (op : Op) → OpFits op → is_well_formed_op op ≡ true → (wide || is_short_op op) ≡ true → IsReadAs wide (op_line op) (Does op false)
 op_law wide op fits formed may = reads_as wide (op_line op) (Does op false) (op_plain op (decimals_fit op fits formed)) (op_width op (decimals_fit op fits formed) formed) (op_is_read wide op fits formed may)

@@ -122,20 +122,28 @@ write_is_read wide MemReadLine address phases fits values formed may = absurd (l
 write_is_read wide ConfigurationRead address phases fits values formed may = absurd (let apart : false ≡ true = formed in cc)
 write_is_read wide ConfigurationWrite address phases fits values formed may = absurd (let apart : false ≡ true = formed in cc)
 
-poll_is_read : (wide : Bool) (space : Space) (address mask value tries : ℕ) → address < 2 ^ 64 → mask < 2 ^ 32 → value < 2 ^ 32
-    → (is_dword_in space address && is_within 1 most_tries tries) ≡ true → (wide || is_short address) ≡ true
-    → statement_of wide (op_line (Poll space address mask value tries)) ≡ Ok (Does (Poll space address mask value tries) false)
+poll_is_read : (wide : Bool) (space : Space) (address mask wanted : ℕ) (differs : Bool) (tries : ℕ) → address < 2 ^ 64 → mask < 2 ^ 32 → wanted < 2 ^ 32 → (is_dword_in space address && is_within 1 most_tries tries) ≡ true → (wide || is_short address) ≡ true
+    → (let op : Op = Poll space address (record { mask = mask; wanted = wanted; differs = differs }) tries in statement_of wide (op_line op) ≡ Ok (Does op false))
 unfolding statement_of statement_form behind_word line_form poll_form
-poll_is_read wide Mem address mask value tries fits of_mask of_value formed may =
+poll_is_read wide Mem address mask wanted false tries fits of_mask of_value formed may =
     let some : 1 ≤ tries = grind (arith, nat_tests) in
     let few : tries ≤ most_tries = grind (arith, nat_tests) in
-    rw (address_is_read wide address fits may, word_is_read mask of_mask, word_is_read value of_value, decimal_is_read 1 most_tries tries some few (omega arith)) refl
-poll_is_read wide Io address mask value tries fits of_mask of_value formed may =
+    rw (address_is_read wide address fits may, word_is_read mask of_mask, word_is_read wanted of_value, decimal_is_read 1 most_tries tries some few (omega arith)) refl
+poll_is_read wide Mem address mask wanted true tries fits of_mask of_value formed may =
+    let some : 1 ≤ tries = grind (arith, nat_tests) in
+    let few : tries ≤ most_tries = grind (arith, nat_tests) in
+    rw (address_is_read wide address fits may, word_is_read mask of_mask, word_is_read wanted of_value, decimal_is_read 1 most_tries tries some few (omega arith)) refl
+poll_is_read wide Io address mask wanted false tries fits of_mask of_value formed may =
     let some : 1 ≤ tries = grind (arith, nat_tests) in
     let few : tries ≤ most_tries = grind (arith, nat_tests) in
     let below : address < 2 ^ 32 = grind (arith, nat_tests) in
-    rw (port_is_read address below, word_is_read mask of_mask, word_is_read value of_value, decimal_is_read 1 most_tries tries some few (omega arith)) refl
-poll_is_read wide Cfg address mask value tries fits of_mask of_value formed may = absurd (let apart : false ≡ true = formed in cc)
+    rw (port_is_read address below, word_is_read mask of_mask, word_is_read wanted of_value, decimal_is_read 1 most_tries tries some few (omega arith)) refl
+poll_is_read wide Io address mask wanted true tries fits of_mask of_value formed may =
+    let some : 1 ≤ tries = grind (arith, nat_tests) in
+    let few : tries ≤ most_tries = grind (arith, nat_tests) in
+    let below : address < 2 ^ 32 = grind (arith, nat_tests) in
+    rw (port_is_read address below, word_is_read mask of_mask, word_is_read wanted of_value, decimal_is_read 1 most_tries tries some few (omega arith)) refl
+poll_is_read wide Cfg address mask wanted differs tries fits of_mask of_value formed may = absurd (let apart : false ≡ true = formed in cc)
 
 register_read_is_read : (wide : Bool) (bus device register : ℕ) → bus < 2 ^ 8 → is_well_formed_op (CfgRead bus device register) ≡ true → statement_of wide (op_line (CfgRead bus device register)) ≡ Ok (Does (CfgRead bus device register) false)
 unfolding statement_of statement_form behind_word line_form register_read_form
@@ -158,7 +166,7 @@ op_is_read wide (Read command address) fits formed may = read_is_read wide comma
 op_is_read wide (Write command address phases) fits formed may = write_is_read wide command address phases fits.0 fits.1 formed may
 op_is_read wide (CfgRead bus device register) fits formed may = register_read_is_read wide bus device register fits formed
 op_is_read wide (CfgWrite bus device register phase) fits formed may = register_write_is_read wide bus device register phase fits.0 fits.1 formed
-op_is_read wide (Poll space address mask value tries) fits formed may = poll_is_read wide space address mask value tries fits.0 fits.1 fits.2 formed may
+op_is_read wide (Poll space address want tries) fits formed may = poll_is_read wide space address want.mask want.wanted want.differs tries fits.0 fits.1.0 fits.1.1 formed may
 
 abbrev planned_so : Planned → Result (Planned × List (List ℕ)) LineFault
 planned_so planned = Ok (planned, [])

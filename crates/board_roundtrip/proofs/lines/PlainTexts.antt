@@ -151,10 +151,13 @@ command_plain MemReadMultiple = refl
 command_plain MemReadLine = refl
 command_plain MemWriteInvalidate = refl
 
-poll_plain : (space : Space) → is_word (poll_word space) ≡ true
-poll_plain Mem = refl
-poll_plain Io = refl
-poll_plain Cfg = refl
+poll_plain : (space : Space) (differs : Bool) → is_word (poll_word space differs) ≡ true
+poll_plain Mem false = refl
+poll_plain Mem true = refl
+poll_plain Io false = refl
+poll_plain Io true = refl
+poll_plain Cfg false = refl
+poll_plain Cfg true = refl
 
 pub range_plain : (word : List ℕ) (range : Range) → is_word word ≡ true → list_all is_word (range_line word range) ≡ true
 range_plain word range plain = rw (plain, space_plain range.space, address_plain range.base, address_plain range.size) refl
@@ -172,14 +175,14 @@ DecimalsFit (Read command address) = Unit {0}
 DecimalsFit (Write command address phases) = Unit {0}
 DecimalsFit (CfgRead bus device register) = (bus < 2 ^ 32) × (device < 2 ^ 32) × (register < 2 ^ 32)
 DecimalsFit (CfgWrite bus device register phase) = (bus < 2 ^ 32) × (device < 2 ^ 32) × (register < 2 ^ 32)
-DecimalsFit (Poll space address mask value tries) = tries < 2 ^ 32
+DecimalsFit (Poll space address want tries) = tries < 2 ^ 32
 
 pub op_plain : (op : Op) → DecimalsFit op → list_all is_word (op_line op) ≡ true
 op_plain (Read command address) fits = rw (command_plain command, address_plain address) refl
 op_plain (Write command address phases) fits = rw (command_plain command, address_plain address, phases_plain phases) refl
 op_plain (CfgRead bus device register) fits = rw (decimal_word bus fits.0, decimal_word device fits.1, decimal_word register fits.2) refl
 op_plain (CfgWrite bus device register phase) fits = rw (decimal_word bus fits.0, decimal_word device fits.1, decimal_word register fits.2, phase_plain phase) refl
-op_plain (Poll space address mask value tries) fits = rw (poll_plain space, address_plain address, eight_word mask, eight_word value, decimal_word tries fits) refl
+op_plain (Poll space address want tries) fits = rw (poll_plain space want.differs, address_plain address, eight_word want.mask, eight_word want.wanted, decimal_word tries fits) refl
 
 direction_plain : (up : Bool) → is_word (direction_word up) ≡ true
 direction_plain true = refl

@@ -88,10 +88,13 @@ space_width Mem = omega arith
 space_width Io = omega arith
 space_width Cfg = omega arith
 
-poll_width : (space : Space) → length (poll_word space) ≤ 7
-poll_width Mem = omega arith
-poll_width Io = omega arith
-poll_width Cfg = omega arith
+poll_width : (space : Space) (differs : Bool) → length (poll_word space differs) ≤ 10
+poll_width Mem false = omega arith
+poll_width Mem true = omega arith
+poll_width Io false = omega arith
+poll_width Io true = omega arith
+poll_width Cfg false = omega arith
+poll_width Cfg true = omega arith
 
 command_width : (command : Command) → length (command_word command) ≤ 3
 command_width IoRead = omega arith
@@ -147,11 +150,11 @@ op_width (CfgWrite bus device register phase) fits formed =
     let c = decimal_width register fits.2 in
     let d = phase_width phase in
     omega (arith, a, b, c, d)
-op_width (Poll space address mask value tries) fits formed =
-    let word = poll_width space in
+op_width (Poll space address want tries) fits formed =
+    let word = poll_width space want.differs in
     let place = address_width address in
-    let a = word_length mask in
-    let b = word_length value in
+    let a = word_length want.mask in
+    let b = word_length want.wanted in
     let c = decimal_width tries fits in
     omega (arith, word, place, a, b, c)
 

@@ -9,16 +9,15 @@ ghost use Rattle.audit_clocks.specs.Tables.{dword};
 ghost use Rattle.board_writes.specs.Polls.{wish_for, raises_it, is_clean_write};
 
 use crate::writers::{WordWrite, first_named};
-use board_model::{Board, Op, Word, merge, op_of};
+use board_model::{Board, Op, Want, Word, merge, op_of};
 use machine_steps::opens_as;
 use pci_command::{OpId, Phase, Space};
 
-/// What a poll waits for: a value of a dword, under a mask.
+/// What a poll waits for of its dword.
 #[derive(Clone, Copy, Debug, PartialEq, Eq, Hash)]
 pub struct Awaited {
     pub word: Word,
-    pub mask: u32,
-    pub wanted: u32,
+    pub want: Want,
 }
 
 /// What the operation waits for: nothing where it is no poll that has a word.
@@ -27,13 +26,9 @@ pub fn awaited_by(board: &Board, op: OpId) -> Option<Awaited>
     ensures { option_map wish_for result ≡ wish_of board.now op }
 {
     match op_of(board, op) {
-        Some(Op::Poll { mask, value, .. }) => {
+        Some(Op::Poll { want, .. }) => {
             let word = first_named(board, op)?;
-            Some(Awaited {
-                word,
-                mask: *mask,
-                wanted: *value,
-            })
+            Some(Awaited { word, want: *want })
         }
         _ => None,
     }
@@ -53,7 +48,7 @@ impl Awaited {
     /// Whether what the dword opens as meets it.
     pub(crate) fn opens(&self, board: &Board) -> bool
         ensures { result ≡
-            is_met_by self.now.mask self.now.wanted (opens_as board.now (dword self.now.word)) }
+            is_met_by self.now.want (opens_as board.now (dword self.now.word)) }
     {
         let Word {
             target,
@@ -75,14 +70,14 @@ impl Awaited {
     pub(crate) fn is_clean(&self, write: &WordWrite) -> bool
         ensures { result ≡ is_clean_write self.now write.now }
     {
-        is_whole(self.mask, write.phase) && (!self.is_raised_by(write) || write.last)
+        is_whole(self.want.mask, write.phase) && (!self.is_raised_by(write) || write.last)
     }
 
     /// Whether the value meets it.
     pub(crate) fn is_met_by(&self, value: u32) -> bool
-        ensures { result ≡ is_met_by self.now.mask self.now.wanted value }
+        ensures { result ≡ is_met_by self.now.want value }
     {
-        value & self.mask == self.wanted
+        self.want.is_met_by(value)
     }
 }
 

@@ -11,7 +11,7 @@ const AT_ONCE: usize = 64;
 impl Awaited {
     /// Whether one of these values meets it.
     pub(crate) fn is_any_met(&self, values: &[u32]) -> bool
-        ensures { result ≡ list_any (is_met_by self.now.mask self.now.wanted) values.now }
+        ensures { result ≡ list_any (is_met_by self.now.want) values.now }
     {
         let mut met = false;
         for value in values {
@@ -24,7 +24,7 @@ impl Awaited {
     pub(crate) fn count_unmet(&self, values: &[u32]) -> usize
         ensures within { result ≤ length values.now }
         ensures count { result ≡ prefix_len
-            (λ value. not (is_met_by self.now.mask self.now.wanted value)) values.now }
+            (λ value. not (is_met_by self.now.want value)) values.now }
     {
         let mut left = values;
         while left.len() >= AT_ONCE {
@@ -42,7 +42,7 @@ impl Awaited {
     fn count_close(&self, values: &[u32]) -> usize
         ensures within { result ≤ length values.now }
         ensures count { result ≡ prefix_len
-            (λ value. not (is_met_by self.now.mask self.now.wanted value)) values.now }
+            (λ value. not (is_met_by self.now.want value)) values.now }
     {
         if !self.is_any_met(values) {
             return values.len();
@@ -58,7 +58,7 @@ impl Awaited {
     pub(crate) fn count_to_last(&self, values: &[u32]) -> usize
         ensures within { result ≤ length values.now }
         ensures count { result ≡
-            count_to_last (is_met_by self.now.mask self.now.wanted) values.now }
+            count_to_last (is_met_by self.now.want) values.now }
     {
         let mut left = values;
         while left.len() >= AT_ONCE {
@@ -76,7 +76,7 @@ impl Awaited {
     fn count_close_to_last(&self, values: &[u32]) -> usize
         ensures within { result ≤ length values.now }
         ensures count { result ≡
-            count_to_last (is_met_by self.now.mask self.now.wanted) values.now }
+            count_to_last (is_met_by self.now.want) values.now }
     {
         if !self.is_any_met(values) {
             return 0;

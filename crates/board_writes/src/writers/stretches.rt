@@ -53,7 +53,7 @@ impl Stretches {
     pub(crate) fn are_clean(&self, awaited: &Awaited) -> bool
         ensures { result ≡ list_all (is_clean_write awaited.now) self.now }
     {
-        covers(self.bits, awaited.mask) && !awaited.is_any_met(self.early.as_slice())
+        covers(self.bits, awaited.want.mask) && !awaited.is_any_met(self.early.as_slice())
     }
 
     /// Which stretch to look at first.

@@ -3,6 +3,7 @@ use Rattle.std.specs.Prelude.{◌≡◌, ◌≢◌, ◌↔◌, ℕ, Bool, true, 
 use Rattle.std.specs.List.{list_any}
 use Rattle.pci_command.specs.declared.op_id.OpId.{OpId}
 use Rattle.pci_command.specs.declared.op_id.Outcome.{Outcome}
+use Rattle.board_model.specs.declared.op.Want.{Want}
 use Rattle.board_model.specs.declared.bridge.Place.{Place}
 use Rattle.board_model.specs.declared.board.Board.{Board}
 use Rattle.board_model.specs.Ways.{Dword}
@@ -50,8 +51,8 @@ pub record SaysSafe (board : Board) (text : List ℕ) (ending : Status) : Type 0
   -- a read or a try of a poll that reads nowhere reads no word
   pub nowhere : (h : List Event) (r : OpId) (aborted : Bool) → Says said (at_place r.master r.index) (nowhere aborted) → Run board h → last_reading board r h ≡ None
   -- no try of a poll that is vain ends with a value that meets it
-  pub vain : (e : Event) (h : List Event) (p : OpId) (mask wanted : ℕ) (outcome : Outcome) → Says said (at_place p.master p.index) vain →
-      Awaits board p mask wanted → Run board (e ∷ h) → ended e ≡ Some (record { op = p; outcome = outcome }) → meets mask wanted outcome ≡ false
+  pub vain : (e : Event) (h : List Event) (p : OpId) (want : Want) (outcome : Outcome) → Says said (at_place p.master p.index) vain →
+      Awaits board p want → Run board (e ∷ h) → ended e ≡ Some (record { op = p; outcome = outcome }) → meets want outcome ≡ false
   -- a write that has a word has landed, once it has ended and the run is complete
   pub writes : (h : List Event) (w : OpId) → is_write board w ≡ true → words_named board w ≢ [] → Run board h → Complete board h → has_ended h w ≡ true → has_landed h w ≡ true
   -- an operation that has no line since it is not reached is never done

@@ -3,6 +3,7 @@ use Rattle.std.specs.Prelude.{ℕ, Bool, true, false, not, ◌&&◌, List, Optio
 use Rattle.std.specs.List.{list_all, list_any}
 use Rattle.pci_command.specs.declared.op_id.OpId.{OpId}
 use Rattle.pci_command.specs.declared.op_id.Outcome.{Outcome}
+use Rattle.board_model.specs.declared.op.Want.{Want}
 use Rattle.board_model.specs.declared.op.Op.{Op}
 use Rattle.board_model.specs.declared.op.Op.TheVariants.{Read as ReadOp, Write, CfgRead, CfgWrite, Poll}
 use Rattle.board_model.specs.declared.board.Board.{Board}
@@ -35,9 +36,9 @@ is_latch MasterAbort = false
 is_latch TargetAbort = false
 
 -- what ended so does not meet the poll, or it is on its way
-abbrev pub is_unmet : ℕ → ℕ → Step → Option Outcome → Bool
-is_unmet mask wanted step None = is_latch step
-is_unmet mask wanted step (Some outcome) = not (meets mask wanted outcome)
+abbrev pub is_unmet : Want → Step → Option Outcome → Bool
+is_unmet want step None = is_latch step
+is_unmet want step (Some outcome) = not (meets want outcome)
 
 -- the operation is a poll, which the step does not meet
 abbrev pub is_unmet_of : Option Op → Step → Option Outcome → Bool
@@ -46,7 +47,7 @@ is_unmet_of (Some (ReadOp command address)) step outcome = false
 is_unmet_of (Some (Write command address phases)) step outcome = false
 is_unmet_of (Some (CfgRead bus device register)) step outcome = false
 is_unmet_of (Some (CfgWrite bus device register phase)) step outcome = false
-is_unmet_of (Some (Poll space address mask value tries)) step outcome = is_unmet mask value step outcome
+is_unmet_of (Some (Poll space address want tries)) step outcome = is_unmet want step outcome
 
 -- an act of a try that is not met; what arrives may be what brings one there or back
 abbrev pub is_unmet_try : Board → Event → Bool

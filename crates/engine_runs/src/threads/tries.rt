@@ -4,7 +4,7 @@ ghost use Rattle.board_model.specs.Requests.{op_of};
 ghost use Rattle.engine_runs.specs.threads.Tries.{outcome_by, is_latch, is_unmet, is_unmet_of};
 ghost use Rattle.engine_runs.specs.threads.Tries.{is_unmet_try, is_act, are_unmet_tries};
 
-use board_model::{Board, Op, op_of};
+use board_model::{Board, Op, Want, op_of};
 use history_model::{By, Event, Stamped, Step};
 use machine_steps::{lane_outcome, master_outcome};
 use pci_command::{OpId, Outcome};
@@ -56,7 +56,7 @@ fn is_unmet_of(board: &Board, op: OpId, step: Step, outcome: Option<Outcome>) ->
     ensures { result ≡ is_unmet_of (op_of board.now op) step outcome }
 {
     match op_of(board, op) {
-        Some(Op::Poll { mask, value, .. }) => is_unmet(*mask, *value, step, outcome),
+        Some(Op::Poll { want, .. }) => is_unmet(*want, step, outcome),
         _ => false,
     }
 }
@@ -71,12 +71,12 @@ fn outcome_by(board: &Board, by: By, op: OpId, step: Step) -> Option<Outcome>
     }
 }
 
-/// Whether what ended so does not meet a poll for the value under the mask, or is on its way.
-fn is_unmet(mask: u32, wanted: u32, step: Step, outcome: Option<Outcome>) -> bool
-    ensures { result ≡ is_unmet mask wanted step outcome }
+/// Whether what ended so does not meet the poll, or is on its way.
+fn is_unmet(want: Want, step: Step, outcome: Option<Outcome>) -> bool
+    ensures { result ≡ is_unmet want step outcome }
 {
     match outcome {
-        Some(Outcome::Value(value)) => value & mask != wanted,
+        Some(Outcome::Value(value)) => !want.is_met_by(value),
         Some(Outcome::Written | Outcome::Aborted | Outcome::Nobody) => true,
         None => is_latch(step),
     }

@@ -29,9 +29,9 @@ follows_named board o outcome (Some (ReadOp command address)) = present_named bo
 follows_named board o outcome (Some (Write command address phases)) = present_named board _
 follows_named board o outcome (Some (CfgRead bus device register)) = present_named board _
 follows_named board o outcome (Some (CfgWrite bus device register phase)) = present_named board _
-follows_named board o outcome (Some (Poll space address mask wanted tries)) =
+follows_named board o outcome (Some (Poll space address want tries)) =
     let P : Bool → Type 0 = λ b. IsNamed board (cond b (next_op board o) (next_try board o)) in
-    elim (meets mask wanted outcome) as P [ true ↦ present_named board _ | false ↦ present_named board _ ]
+    elim (meets want outcome) as P [ true ↦ present_named board _ | false ↦ present_named board _ ]
 
 -- the turn after one more event
 after_named : (board : Board) (master : ℕ) (turn : Option OpId) (ending : Option Ending) → IsNamed board turn → IsNamed board (turn_after board master turn ending)

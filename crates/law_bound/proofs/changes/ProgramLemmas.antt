@@ -47,9 +47,9 @@ follows_masters board master o outcome (Some (ReadOp command address)) is = pres
 follows_masters board master o outcome (Some (Write command address phases)) is = present_masters board master _ is
 follows_masters board master o outcome (Some (CfgRead bus device register)) is = present_masters board master _ is
 follows_masters board master o outcome (Some (CfgWrite bus device register phase)) is = present_masters board master _ is
-follows_masters board master o outcome (Some (Poll space address mask wanted tries)) is =
+follows_masters board master o outcome (Some (Poll space address want tries)) is =
     let P : Bool → Type 0 = λ b. IsMasters master (cond b (next_op board o) (next_try board o)) in
-    elim (meets mask wanted outcome) as P [ true ↦ present_masters board master _ is | false ↦ present_masters board master _ is ]
+    elim (meets want outcome) as P [ true ↦ present_masters board master _ is | false ↦ present_masters board master _ is ]
 
 -- the turn after one more event
 after_masters : (board : Board) (master : ℕ) (turn : Option OpId) (ending : Option Ending) → IsMasters master turn → IsMasters master (turn_after board master turn ending)
@@ -208,8 +208,8 @@ module _ (board : Board) (valid : IsValid board) where
           | Write command address phases ↦ next_op_left
           | CfgRead bus device register ↦ next_op_left
           | CfgWrite bus device register phase ↦ next_op_left
-          | Poll space address mask wanted tries ↦
+          | Poll space address want tries ↦
               let Q : Bool → Type 0 = λ b. program_left board h master (cond b (next_op board o) (next_try board o)) ≤ behind in
-              elim (meets mask wanted outcome) as Q [ true ↦ next_op_left | false ↦ next_try_left ]
+              elim (meets want outcome) as Q [ true ↦ next_op_left | false ↦ next_try_left ]
         ] in
         subst F (sym is_op) there

@@ -52,9 +52,9 @@ posted_follows board o outcome (ReadOp command address) write = refl
 posted_follows board o outcome (Write command address phases) write = refl
 posted_follows board o outcome (CfgRead bus device register) write = refl
 posted_follows board o outcome (CfgWrite bus device register phase) write = refl
-posted_follows board o outcome (Poll Mem address mask value tries) write = cc
-posted_follows board o outcome (Poll Io address mask value tries) write = cc
-posted_follows board o outcome (Poll Cfg address mask value tries) write = cc
+posted_follows board o outcome (Poll Mem address want tries) write = cc
+posted_follows board o outcome (Poll Io address want tries) write = cc
+posted_follows board o outcome (Poll Cfg address want tries) write = cc
 
 -- where slots are held only for turns, none is held for the operation behind a turn
 abbrev pub OnlyTurns : (ℕ → Option OpId) → List Slot → Type 0

@@ -64,9 +64,9 @@ op_block (Read command address) on well posted = absurd (read_not_posted command
 op_block (Write command address phases) on well posted = write_block command address phases well posted
 op_block (CfgRead bus device register) on well posted = cc
 op_block (CfgWrite bus device register phase) on well posted = cc
-op_block (Poll Mem address mask value tries) on well posted = cc
-op_block (Poll Io address mask value tries) on well posted = cc
-op_block (Poll Cfg address mask value tries) on well posted = cc
+op_block (Poll Mem address want tries) on well posted = cc
+op_block (Poll Io address want tries) on well posted = cc
+op_block (Poll Cfg address want tries) on well posted = cc
 
 -- all its data phases are in one block
 same_block : (op : Op) (on phase : ℕ) → is_well_formed_op op ≡ true → same_command (command_of op) MemWrite ≡ true → phase < length (phases_of op) → SameBlock (address_on op on + 4 * phase) (address_on op on)

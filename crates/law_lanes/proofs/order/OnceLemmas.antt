@@ -52,9 +52,9 @@ op_later board o p outcome (ReadOp command address) is = next_op_later board o p
 op_later board o p outcome (Write command address phases) is = next_op_later board o p is
 op_later board o p outcome (CfgRead bus device register) is = next_op_later board o p is
 op_later board o p outcome (CfgWrite bus device register phase) is = next_op_later board o p is
-op_later board o p outcome (Poll space address mask wanted tries) is =
+op_later board o p outcome (Poll space address want tries) is =
     let P : Bool → Type 0 = λ b. IsLater o (cond b (next_op board p) (next_try board p)) in
-    elim (meets mask wanted outcome) as P [ true ↦ next_op_later board o p is | false ↦ next_try_later board o p is ]
+    elim (meets want outcome) as P [ true ↦ next_op_later board o p is | false ↦ next_try_later board o p is ]
 
 follows_later : (board : Board) (o p : OpId) (outcome : Outcome) → NotBefore o p → IsLater o (follows board (record { op = p; outcome = outcome }))
 follows_later board o p outcome is =

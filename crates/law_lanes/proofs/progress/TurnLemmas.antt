@@ -51,9 +51,9 @@ follows_of board o outcome (Some (ReadOp command address)) = present_of board (r
 follows_of board o outcome (Some (Write command address phases)) = present_of board (record { master = o.master; index = o.index + 1; attempt = 0 })
 follows_of board o outcome (Some (CfgRead bus device register)) = present_of board (record { master = o.master; index = o.index + 1; attempt = 0 })
 follows_of board o outcome (Some (CfgWrite bus device register phase)) = present_of board (record { master = o.master; index = o.index + 1; attempt = 0 })
-follows_of board o outcome (Some (Poll space address mask wanted tries)) =
+follows_of board o outcome (Some (Poll space address want tries)) =
     let P : Bool → Type 0 = λ b. IsOf o.master (cond b (next_op board o) (next_try board o)) in
-    elim (meets mask wanted outcome) as P [
+    elim (meets want outcome) as P [
       | true ↦ present_of board (record { master = o.master; index = o.index + 1; attempt = 0 })
       | false ↦ present_of board (record { master = o.master; index = o.index; attempt = o.attempt + 1 })
     ]

@@ -129,7 +129,7 @@ once_tries (ReadOp command address) none = refl
 once_tries (Write command address phases) none = refl
 once_tries (CfgRead bus device register) none = refl
 once_tries (CfgWrite bus device register phase) none = refl
-once_tries (Poll space address mask wanted tries) none = cc
+once_tries (Poll space address want tries) none = cc
 
 -- an operation at the place of one that is no poll is that operation
 pub same_once : (board : Board) (r o : OpId) (its : Op) → op_of board r ≡ Some its → is_poll (Some its) ≡ false → is_some (op_of board o) ≡ true → o.master ≡ r.master → o.index ≡ r.index → o ≡ r

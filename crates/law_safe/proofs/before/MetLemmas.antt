@@ -1,5 +1,5 @@
 -- Where a firm poll is met, what landed last in its word is of a raiser, that had landed whole before its reading.
-use Rattle.std.proofs.Common.{◌≡◌, ℕ, zero, suc, ◌+◌, ◌*◌, ◌<◌, ◌≤◌, Bool, true, false, eqb, cond, List, [], ◌∷◌, ◌++◌, length, take, drop, Option, Some, refl, sym, ap, subst, ◌∙◌, arith, ◌⊎◌, inl, inr, ⊎_elim, bit_and, eqb-true}
+use Rattle.std.proofs.Common.{◌≡◌, ℕ, zero, suc, ◌+◌, ◌*◌, ◌<◌, ◌≤◌, Bool, true, false, not, eqb, cond, List, [], ◌∷◌, ◌++◌, length, take, drop, Option, Some, refl, sym, ap, subst, ◌∙◌, arith, ◌⊎◌, inl, inr, ⊎_elim, bit_and, eqb-true}
 use Rattle.std.specs.List.{list_any, AllByRecursion}
 use Rattle.std.proofs.lemmas.Bool.Decides.{nat_tests}
 use Rattle.std.proofs.lemmas.List.{length-drop}
@@ -10,6 +10,7 @@ use Rattle.pci_command.specs.declared.request.Request.{Request}
 use Rattle.pci_command.specs.declared.op_id.OpId.{OpId}
 use Rattle.pci_command.specs.Command.{space_of}
 use Rattle.pci_command.specs.Same.{same_op, same_space}
+use Rattle.board_model.specs.declared.op.Want.{Want}
 use Rattle.board_model.specs.declared.bridge.Place.{Place}
 use Rattle.board_model.specs.declared.bridge.Place.TheVariants.{Target, Header, Lane, Nobody}
 use Rattle.board_model.specs.declared.op.Op.{Op}
@@ -47,30 +48,31 @@ plain_mask Cfg address plain = cc
 abbrev LandsWhole : ℕ → Landing → Type 0
 LandsWhole mask landing = is_whole mask landing.phase ≡ true
 
-abbrev lands_met : ℕ → ℕ → Landing → Bool
-lands_met mask wanted landing = brings_met mask wanted landing.phase
+abbrev lands_met : Want → Landing → Bool
+lands_met want landing = brings_met want landing.phase
 
 -- landings of which the last one brought what meets
-pub record LastMet (mask wanted : ℕ) (landings : List Landing) : Type 0 where
+pub record LastMet (want : Want) (landings : List Landing) : Type 0 where
   pub earlier : List Landing
   pub last : Landing
   pub is : landings ≡ earlier ++ last ∷ []
-  pub met : lands_met mask wanted last ≡ true
+  pub met : lands_met want last ≡ true
 
 -- so where it meets the last of them brought that, or there are none and it did
-value_landed : (word : Dword) (mask wanted old : ℕ) (landings : List Landing) → is_plain word.space ≡ true → AllByRecursion (LandsWhole mask) landings → is_met_by mask wanted (merged word old landings) ≡ true
-    → LastMet mask wanted landings ⊎ ((landings ≡ []) × (is_met_by mask wanted old ≡ true))
-value_landed word mask wanted old [] plain each is = inr (refl, is)
-value_landed word mask wanted old (landing ∷ landings) plain each is =
+value_landed : (word : Dword) (want : Want) (old : ℕ) (landings : List Landing) → is_plain word.space ≡ true → AllByRecursion (LandsWhole want.mask) landings → is_met_by want (merged word old landings) ≡ true
+    → LastMet want landings ⊎ ((landings ≡ []) × (is_met_by want old ≡ true))
+value_landed word want old [] plain each is = inr (refl, is)
+value_landed word want old (landing ∷ landings) plain each is =
     let new : ℕ = merge_of old landing.phase (mask_in word.space word.address) in
+    let mask : ℕ = want.mask in
     let covers : bit_and (bit_and (enabled_bits landing.phase.enables) 0xffff_ffff) mask ≡ mask = eqb-true (bit_and (bit_and (enabled_bits landing.phase.enables) 0xffff_ffff) mask) mask each.0 in
     let value : bit_and new mask ≡ bit_and (bit_and landing.phase.value 0xffff_ffff) mask =
     ap (λ m. bit_and (merge_of old landing.phase m) mask) (plain_mask word.space word.address plain) ∙ merge_under mask old landing.phase covers in
-    let same : is_met_by mask wanted new ≡ lands_met mask wanted landing = ap (λ v. eqb v wanted) value in
-    ⊎_elim {C = LastMet mask wanted (landing ∷ landings) ⊎ ((landing ∷ landings ≡ []) × (is_met_by mask wanted old ≡ true))}
-    (λ (more : LastMet mask wanted landings). inl (record { earlier = landing ∷ more.earlier; last = more.last; is = ap (λ ls. landing ∷ ls) more.is; met = more.met }))
-    (λ (none : (landings ≡ []) × (is_met_by mask wanted new ≡ true)). inl (record { earlier = []; last = landing; is = ap (λ ls. landing ∷ ls) none.0; met = sym same ∙ none.1 }))
-    (value_landed word mask wanted new landings plain each.1 is)
+    let same : is_met_by want new ≡ lands_met want landing = ap (λ v. cond want.differs (not (eqb v want.wanted)) (eqb v want.wanted)) value in
+    ⊎_elim {C = LastMet want (landing ∷ landings) ⊎ ((landing ∷ landings ≡ []) × (is_met_by want old ≡ true))}
+    (λ (more : LastMet want landings). inl (record { earlier = landing ∷ more.earlier; last = more.last; is = ap (λ ls. landing ∷ ls) more.is; met = more.met }))
+    (λ (none : (landings ≡ []) × (is_met_by want new ≡ true)). inl (record { earlier = []; last = landing; is = ap (λ ls. landing ∷ ls) none.0; met = sym same ∙ none.1 }))
+    (value_landed word want new landings plain each.1 is)
 
 -- The last data phase of a write does not land in a part of it.
 
@@ -170,31 +172,31 @@ any_last test [] last is = or_left (test last) false is
 any_last test (x ∷ xs) last is = or_right (test x) (list_any test (xs ++ last ∷ [])) (any_last test xs last is)
 
 -- what landed last in the word is of a write that raises the flag of a poll, and that has landed whole
-pub record Raised (board : Board) (before : List Event) (mask wanted : ℕ) (word : Dword) : Type 0 where
+pub record Raised (board : Board) (before : List Event) (want : Want) (word : Dword) : Type 0 where
   pub earlier : List Landing
   pub last : Landing
   pub is_last : landed board before word ≡ earlier ++ last ∷ []
   pub writes : is_write board last.op ≡ true
-  pub raises : Raises board mask wanted word last.op
+  pub raises : Raises board want word last.op
   pub lands : list_any (is_landing_of last.op) (landed board before word) ≡ true
   pub whole : has_landed before last.op ≡ true
 
 -- where the word meets a firm poll that is so, or nothing has landed there and it opens so
-pub raised_by : (board : Board) (before : List Event) (p : OpId) (mask wanted : ℕ) (word : Dword) → IsValid board → Run board before → Firm board p mask wanted word → is_met_by mask wanted (value_of board before word) ≡ true
-    → Raised board before mask wanted word ⊎ ((landed board before word ≡ []) × (is_met_by mask wanted (opens_as board word) ≡ true))
-raised_by board before p mask wanted word valid run firm is =
+pub raised_by : (board : Board) (before : List Event) (p : OpId) (want : Want) (word : Dword) → IsValid board → Run board before → Firm board p want word → is_met_by want (value_of board before word) ≡ true
+    → Raised board before want word ⊎ ((landed board before word ≡ []) × (is_met_by want (opens_as board word) ≡ true))
+raised_by board before p want word valid run firm is =
     let landings : List Landing = landed board before word in
     let each = written board valid word before run in
-    let whole : AllByRecursion (LandsWhole mask) landings = Each-weaker (Written board word) (LandsWhole mask) (λ landing one. one_passes (is_whole mask) landing.phase (phases_to board word landing.op) one.is_one (firm.whole landing.op)) landings each in
-    ⊎_elim {C = Raised board before mask wanted word ⊎ ((landings ≡ []) × (is_met_by mask wanted (opens_as board word) ≡ true))}
-    (λ (met : LastMet mask wanted landings).
+    let whole : AllByRecursion (LandsWhole want.mask) landings = Each-weaker (Written board word) (LandsWhole want.mask) (λ landing one. one_passes (is_whole want.mask) landing.phase (phases_to board word landing.op) one.is_one (firm.whole landing.op)) landings each in
+    ⊎_elim {C = Raised board before want word ⊎ ((landings ≡ []) × (is_met_by want (opens_as board word) ≡ true))}
+    (λ (met : LastMet want landings).
     let last : Landing = met.last in
     let each_is : AllByRecursion (Written board word) (met.earlier ++ last ∷ []) = subst (AllByRecursion (Written board word)) met.is each in
     let one : Written board word last = each_last (Written board word) met.earlier last each_is in
-    let raises : Raises board mask wanted word last.op = one.is_one (brings_met mask wanted) met.met in
+    let raises : Raises board want word last.op = one.is_one (brings_met want) met.met in
     let lands : list_any (is_landing_of last.op) landings ≡ true = ap (list_any (is_landing_of last.op)) met.is ∙ any_last (is_landing_of last.op) met.earlier last (same_op_self last.op) in
     let write = write_op board last.op one.writes in
     let at_end = firm.last last.op raises in
     inl (record { earlier = met.earlier; last = last; is_last = met.is; writes = one.writes; raises = raises; lands = lands; whole = last_landed board valid last.op write.op write.is_op word at_end.0 at_end.1 before run lands }))
-    (λ (none : (landings ≡ []) × (is_met_by mask wanted (opens_as board word) ≡ true)). inr none)
-    (value_landed word mask wanted (opens_as board word) landings firm.plain whole is)
+    (λ (none : (landings ≡ []) × (is_met_by want (opens_as board word) ≡ true)). inr none)
+    (value_landed word want (opens_as board word) landings firm.plain whole is)

@@ -8,6 +8,7 @@ use Rattle.pci_command.specs.declared.op_id.OpId.{OpId}
 use Rattle.pci_command.specs.declared.op_id.Outcome.{Outcome}
 use Rattle.pci_command.specs.declared.op_id.Outcome.TheVariants.{Value, Written as WrittenThere, Aborted, Nobody as NobodyClaimed}
 use Rattle.pci_command.specs.Command.{is_read}
+use Rattle.board_model.specs.declared.op.Want.{Want}
 use Rattle.board_model.specs.declared.agents.Master.{Master as MasterAgent}
 use Rattle.board_model.specs.declared.op.Op.{Op}
 use Rattle.board_model.specs.declared.op.Op.TheVariants.{Read as ReadOp, Write, CfgRead, CfgWrite, Poll}
@@ -114,30 +115,30 @@ before_front x b e g front = by_later front.later front.is
         front_front b (x ∷ b) g (record { later = x ∷ []; is = refl }) (record { later = later; is = same })
 
 -- A poll that was met by an ending: what it read.
-pub record MetBy (board : Board) (e : Event) (g : List Event) (p : OpId) (mask wanted : ℕ) (word : Dword) : Type 0 where
+pub record MetBy (board : Board) (e : Event) (g : List Event) (p : OpId) (want : Want) (word : Dword) : Type 0 where
   pub reading : Reading
   pub is_got : got board (e ∷ g) p ≡ Some reading
   pub before : Front reading.before g
   pub is_word : reading.word ≡ word
-  pub held : is_met_by mask wanted (value_of board reading.before word) ≡ true
+  pub held : is_met_by want (value_of board reading.before word) ≡ true
 
-met_value : (mask wanted : ℕ) (outcome : Outcome) → meets mask wanted outcome ≡ true → (value : ℕ) × (outcome ≡ Value value) × (is_met_by mask wanted value ≡ true)
-met_value mask wanted (Value value) is = (value, refl, is)
-met_value mask wanted WrittenThere is = cc
-met_value mask wanted Aborted is = cc
-met_value mask wanted NobodyClaimed is = cc
+met_value : (want : Want) (outcome : Outcome) → meets want outcome ≡ true → (value : ℕ) × (outcome ≡ Value value) × (is_met_by want value ≡ true)
+met_value want (Value value) is = (value, refl, is)
+met_value want WrittenThere is = cc
+met_value want Aborted is = cc
+met_value want NobodyClaimed is = cc
 
-pub met_by : (board : Board) (valid : IsValid board) (e : Event) (g : List Event) (run : Run board (e ∷ g)) (p : OpId) (space : Space) (address mask wanted tries : ℕ) (is_op : op_of board p ≡ Some (Poll space address mask wanted tries))
-    (outcome : Outcome) → ended e ≡ Some (record { op = p; outcome = outcome }) → meets mask wanted outcome ≡ true → (word : Dword) → Firm board p mask wanted word → MetBy board e g p mask wanted word
-met_by board valid e g run p space address mask wanted tries is_op outcome ends is_met word firm =
+pub met_by : (board : Board) (valid : IsValid board) (e : Event) (g : List Event) (run : Run board (e ∷ g)) (p : OpId) (space : Space) (address : ℕ) (want : Want) (tries : ℕ) (is_op : op_of board p ≡ Some (Poll space address want tries))
+    (outcome : Outcome) → ended e ≡ Some (record { op = p; outcome = outcome }) → meets want outcome ≡ true → (word : Dword) → Firm board p want word → MetBy board e g p want word
+met_by board valid e g run p space address want tries is_op outcome ends is_met word firm =
     let h : List Event = e ∷ g in
-    let given = met_value mask wanted outcome is_met in
+    let given = met_value want outcome is_met in
     let ends_p : ends_as p e ≡ Some outcome = ends_as_here e p outcome ends in
     let ended_it : has_ended h p ≡ true = or_left (is_some (ends_as p e)) (has_ended g p) (ap is_some ends_p) in
     let reads_it : reads board p ≡ true = ap reads_in is_op ∙ (elim space as (λ s. is_read (read_in s) ≡ true) [ Mem ↦ refl | Io ↦ refl | Cfg ↦ refl ]) in
     let some_words : words_named board p ≢ [] = λ none. (let e : word ∷ [] ≡ [] = sym firm.has_word ∙ none in cc) in
     let some : is_some (got board h p) ≡ true = always_got board h p valid run reads_it some_words ended_it in
-    let P : Option Reading → Type 0 = λ found. got board h p ≡ found → is_some found ≡ true → MetBy board e g p mask wanted word in
+    let P : Option Reading → Type 0 = λ found. got board h p ≡ found → is_some found ≡ true → MetBy board e g p want word in
     (elim (got board h p) as P [
       | None ↦ λ _ f. cc
       | Some reading ↦ λ is_got _.
@@ -150,22 +151,22 @@ met_by board valid e g run p space address mask wanted tries is_op outcome ends 
           let G : Outcome → Type 0 = λ y. F (Some y) in
           let with_value : G (Value given.0) = subst G given.1 now in
           let values : given.0 ≡ value_of board reading.before reading.word = cc in
-          let held : is_met_by mask wanted (value_of board reading.before word) ≡ true =
-          subst (λ d. is_met_by mask wanted (value_of board reading.before d) ≡ true) is_word (subst (λ v. is_met_by mask wanted v ≡ true) values given.2) in
+          let held : is_met_by want (value_of board reading.before word) ≡ true =
+          subst (λ d. is_met_by want (value_of board reading.before d) ≡ true) is_word (subst (λ v. is_met_by want v ≡ true) values given.2) in
           record { reading = reading; is_got = is_got; before = before; is_word = is_word; held = held }
     ]) refl some
 
 -- And who raised it: a write that is not left out.
-pub record RaisedBy (board : Board) (table : Table) (e : Event) (g : List Event) (p : OpId) (mask wanted : ℕ) (word : Dword) : Type 0 where
-  pub met : MetBy board e g p mask wanted word
-  pub raised : Raised board met.reading.before mask wanted word
+pub record RaisedBy (board : Board) (table : Table) (e : Event) (g : List Event) (p : OpId) (want : Want) (word : Dword) : Type 0 where
+  pub met : MetBy board e g p want word
+  pub raised : Raised board met.reading.before want word
   pub stays : LeftOut board table p word raised.last.op → ⊥
 
 -- whatever poll an event ends as met, such a write raised
 abbrev pub SoundAt : Board → Table → Event → List Event → Type 0
 SoundAt board table e g =
-    (p : OpId) (mask wanted : ℕ) → Awaits board p mask wanted → (outcome : Outcome) → ended e ≡ Some (record { op = p; outcome = outcome }) → meets mask wanted outcome ≡ true
-    → (word : Dword) → Firm board p mask wanted word → OpensOut board table p mask wanted word → RaisedBy board table e g p mask wanted word
+    (p : OpId) (want : Want) → Awaits board p want → (outcome : Outcome) → ended e ≡ Some (record { op = p; outcome = outcome }) → meets want outcome ≡ true
+    → (word : Dword) → Firm board p want word → OpensOut board table p want word → RaisedBy board table e g p want word
 
 -- and so all events of a history (SoundLemmas has it of every run)
 abbrev pub Sound : Board → Table → List Event → Type 0
@@ -227,13 +228,13 @@ module _ (board : Board) (valid : IsValid board) (table : Table) (consistent : I
         passes.later (e ∷ g) p q masters behind (passes.kept e g p run ((good_now g goods).turns p turn below))
 
     -- what a poll that was met knows
-    by_poll : (q : OpId) (space : Space) (address mask wanted tries : ℕ) → op_of board p ≡ Some (Poll space address mask wanted tries) → meets mask wanted outcome ≡ true → p.master ≡ q.master → stands_after p q ≡ true
+    by_poll : (q : OpId) (space : Space) (address : ℕ) (want : Want) (tries : ℕ) → op_of board p ≡ Some (Poll space address want tries) → meets want outcome ≡ true → p.master ≡ q.master → stands_after p q ≡ true
         → c.index < table p.master p.index c.master → X (e ∷ g) q
-    by_poll q space address mask wanted tries is_poll_op is_met masters behind below =
+    by_poll q space address want tries is_poll_op is_met masters behind below =
         ⊎_elim {C = X (e ∷ g) q}
         (λ (most : table p.master p.index c.master ≤ clock_of board table p c.master). by_it q masters behind (omega (arith, below, most)))
-        (λ (firm : (word : Dword) × Firm board p mask wanted word × OpensOut board table p mask wanted word × ((f : OpId) → Raises board mask wanted word f → LeftOut board table p word f ⊎ (table p.master p.index c.master ≤ clock_with board table f c.master))).
-        let it = sound p mask wanted (space, address, tries, is_poll_op) outcome ends is_met firm.0 firm.1 firm.2 in
+        (λ (firm : (word : Dword) × Firm board p want word × OpensOut board table p want word × ((f : OpId) → Raises board want word f → LeftOut board table p word f ⊎ (table p.master p.index c.master ≤ clock_with board table f c.master))).
+        let it = sound p want (space, address, tries, is_poll_op) outcome ends is_met firm.0 firm.1 firm.2 in
         let met = it.met in
         let raised_it = it.raised in
         let f : OpId = raised_it.last.op in
@@ -256,7 +257,7 @@ module _ (board : Board) (valid : IsValid board) (table : Table) (consistent : I
         ]) refl)
         (raised_below (known_by board table f.master f.index) f.master (f.index + 1) c.master c.index with_f) in
         passes.seen e g p q met.reading f run met.is_got raised_it.writes lands raised_it.whole met.before is_before masters behind)
-        (consistent p mask wanted (space, address, tries, is_poll_op) c.master)
+        (consistent p want (space, address, tries, is_poll_op) c.master)
 
     -- the next operation of the program
     next_known : (q : OpId) → next_op board p ≡ Some q → (is_poll (Some op) ≡ true → (next : OpId) → p.master ≡ next.master → stands_after p next ≡ true → c.index < table p.master p.index c.master → X (e ∷ g) next) → Knowing (e ∷ g) q
@@ -303,11 +304,11 @@ module _ (board : Board) (valid : IsValid board) (table : Table) (consistent : I
   follows_known e g run goods sound p outcome ends (Write command address phases) is_op q is = next_known e g run goods sound p outcome ends (Write command address phases) is_op q is (λ f. cc)
   follows_known e g run goods sound p outcome ends (CfgRead bus device register) is_op q is = next_known e g run goods sound p outcome ends (CfgRead bus device register) is_op q is (λ f. cc)
   follows_known e g run goods sound p outcome ends (CfgWrite bus device register phase) is_op q is = next_known e g run goods sound p outcome ends (CfgWrite bus device register phase) is_op q is (λ f. cc)
-  follows_known e g run goods sound p outcome ends (Poll space address mask wanted tries) is_op q is =
-      let op : Op = Poll space address mask wanted tries in
-      let P : Bool → Type 0 = λ b. meets mask wanted outcome ≡ b → cond b (next_op board p) (next_try board p) ≡ Some q → Knowing (e ∷ g) q in
-      (elim (meets mask wanted outcome) as P [
-        | true ↦ λ is_met f. next_known e g run goods sound p outcome ends op is_op q f (λ _ next masters behind below. by_poll e g run goods sound p outcome ends op is_op next space address mask wanted tries is_op is_met masters behind below)
+  follows_known e g run goods sound p outcome ends (Poll space address want tries) is_op q is =
+      let op : Op = Poll space address want tries in
+      let P : Bool → Type 0 = λ b. meets want outcome ≡ b → cond b (next_op board p) (next_try board p) ≡ Some q → Knowing (e ∷ g) q in
+      (elim (meets want outcome) as P [
+        | true ↦ λ is_met f. next_known e g run goods sound p outcome ends op is_op q f (λ _ next masters behind below. by_poll e g run goods sound p outcome ends op is_op next space address want tries is_op is_met masters behind below)
         | false ↦ λ _ f. try_known e g run goods sound p outcome ends op is_op q f
       ]) refl is
 

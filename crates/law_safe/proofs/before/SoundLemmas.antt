@@ -4,6 +4,7 @@ use Rattle.std.proofs.Common.{◌≡◌, ◌≢◌, ℕ, true, false, List, [], 
 use Rattle.std.specs.List.{list_any}
 use Rattle.pci_command.specs.declared.op_id.OpId.{OpId}
 use Rattle.pci_command.specs.declared.phases.Phase.{Phase}
+use Rattle.board_model.specs.declared.op.Want.{Want}
 use Rattle.board_model.specs.declared.board.Board.{Board}
 use Rattle.board_model.specs.Requests.{op_of}
 use Rattle.board_model.specs.Ways.{Dword}
@@ -25,9 +26,9 @@ use Rattle.law_safe.proofs.before.LastLemmas.{names_word, none_behind, last_alon
 
 module _ (board : Board) (valid : IsValid board) (table : Table) (consistent : IsConsistent board table) where
   -- a write that comes before the poll had landed before its reading
-  landed_then : (e : Event) (g : List Event) (run : Run board (e ∷ g)) → Sound board table g → (p : OpId) (mask wanted : ℕ) (word : Dword) → (met : MetBy board e g p mask wanted word) → (x : OpId) → WritesBefore board table p word x
+  landed_then : (e : Event) (g : List Event) (run : Run board (e ∷ g)) → Sound board table g → (p : OpId) (want : Want) (word : Dword) → (met : MetBy board e g p want word) → (x : OpId) → WritesBefore board table p word x
       → list_any (is_landing_of x) (landed board met.reading.before word) ≡ true
-  landed_then e g run sound p mask wanted word met x earlier =
+  landed_then e g run sound p want word met x earlier =
       let h : List Event = e ∷ g in
       let reading : Reading = met.reading in
       let before : List Event = reading.before in
@@ -40,38 +41,38 @@ module _ (board : Board) (valid : IsValid board) (table : Table) (consistent : I
       named_lands board before x word valid at.run.1 earlier.writes names whole
 
   -- so what landed last is of no raiser that is left out
-  stays : (e : Event) (g : List Event) (run : Run board (e ∷ g)) → Sound board table g → (p : OpId) (mask wanted : ℕ) (word : Dword) → (met : MetBy board e g p mask wanted word) → (raised : Raised board met.reading.before mask wanted word)
+  stays : (e : Event) (g : List Event) (run : Run board (e ∷ g)) → Sound board table g → (p : OpId) (want : Want) (word : Dword) → (met : MetBy board e g p want word) → (raised : Raised board met.reading.before want word)
       → LeftOut board table p word raised.last.op → ⊥
-  stays e g run sound p mask wanted word met raised left =
+  stays e g run sound p want word met raised left =
       let before : List Event = met.reading.before in
       let f : OpId = raised.last.op in
       let run_b : Run board before = front_run board before g met.before run.1 in
       let sound_b = sound_front board table before g met.before sound in
-      let lands : list_any (is_landing_of left.x) (landed board before word) ≡ true = landed_then e g run sound p mask wanted word met left.x left.earlier in
+      let lands : list_any (is_landing_of left.x) (landed board before word) ≡ true = landed_then e g run sound p want word met left.x left.earlier in
       let some : phases_to board word f ≢ [] = λ none. (
-      let F : List Phase → Type 0 = λ ps. list_any (brings_met mask wanted) ps ≡ true in
+      let F : List Phase → Type 0 = λ ps. list_any (brings_met want) ps ≡ true in
       let here : F [] = subst F none raised.raises in
       cc) in
       let none = none_behind board valid table consistent before run_b sound_b word f left.x raised.writes (names_word board word f raised.writes some) left.earlier.writes lands left.other left.no_more in
       last_alone f left.x raised.earlier raised.last refl left.other (subst (NoneBehind f left.x false) raised.is_last none) (subst (λ ls. list_any (is_landing_of left.x) ls ≡ true) raised.is_last lands) ⊥
 
   sound_at : (e : Event) (g : List Event) → Run board (e ∷ g) → Sound board table g → SoundAt board table e g
-  sound_at e g run sound p mask wanted awaits outcome ends is_met word firm opens =
-      let met = met_by board valid e g run p awaits.0 awaits.1 mask wanted awaits.2 awaits.3 outcome ends is_met word firm in
+  sound_at e g run sound p want awaits outcome ends is_met word firm opens =
+      let met = met_by board valid e g run p awaits.0 awaits.1 want awaits.2 awaits.3 outcome ends is_met word firm in
       let before : List Event = met.reading.before in
       let run_b : Run board before = front_run board before g met.before run.1 in
-      ⊎_elim {C = RaisedBy board table e g p mask wanted word}
-      (λ (raised : Raised board before mask wanted word). record { met = met; raised = raised; stays = stays e g run sound p mask wanted word met raised })
-      (λ (none : (landed board before word ≡ []) × (is_met_by mask wanted (opens_as board word) ≡ true)).
-      ⊎_elim {C = RaisedBy board table e g p mask wanted word}
-      (λ (other : is_met_by mask wanted (opens_as board word) ≡ false). let e : true ≡ false = sym none.1 ∙ other in cc)
+      ⊎_elim {C = RaisedBy board table e g p want word}
+      (λ (raised : Raised board before want word). record { met = met; raised = raised; stays = stays e g run sound p want word met raised })
+      (λ (none : (landed board before word ≡ []) × (is_met_by want (opens_as board word) ≡ true)).
+      ⊎_elim {C = RaisedBy board table e g p want word}
+      (λ (other : is_met_by want (opens_as board word) ≡ false). let e : true ≡ false = sym none.1 ∙ other in cc)
       (λ (some : (x : OpId) × WritesBefore board table p word x).
-      let lands = landed_then e g run sound p mask wanted word met some.0 some.1 in
+      let lands = landed_then e g run sound p want word met some.0 some.1 in
       let F : List Landing → Type 0 = λ ls. list_any (is_landing_of some.0) ls ≡ true in
       let nothing : F [] = subst F none.0 lands in
       cc)
       opens)
-      (raised_by board before p mask wanted word valid run_b firm met.held)
+      (raised_by board before p want word valid run_b firm met.held)
 
   pub Sound-run : (h : List Event) → Run board h → Sound board table h
   Sound-run [] run = tt

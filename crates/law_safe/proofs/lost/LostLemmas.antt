@@ -67,7 +67,7 @@ module _ (board : Board) (table : Table) (w : OpId) (aborted : Bool) where
   as_lost (Some (Write command address phases)) e = write_lost (Write command address phases) (words_named board w) refl e
   as_lost (Some (CfgRead bus device register)) e = read_lost (CfgRead bus device register) (words_named board w) e (words_named board w ≡ [])
   as_lost (Some (CfgWrite bus device register phase)) e = write_lost (CfgWrite bus device register phase) (words_named board w) refl e
-  as_lost (Some (Poll space address mask wanted tries)) e = poll_lost (Poll space address mask wanted tries) (wish_of board w) e (words_named board w ≡ [])
+  as_lost (Some (Poll space address want tries)) e = poll_lost (Poll space address want tries) (wish_of board w) e (words_named board w ≡ [])
 
   pub lost_names : said_of board table w ≡ Some (lost aborted) → words_named board w ≡ []
   lost_names e =

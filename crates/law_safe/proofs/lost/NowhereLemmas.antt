@@ -6,6 +6,7 @@ use Rattle.pci_command.specs.declared.phases.Phase.{Phase}
 use Rattle.pci_command.specs.declared.request.Request.{Request}
 use Rattle.pci_command.specs.declared.op_id.OpId.{OpId}
 use Rattle.pci_command.specs.Command.{space_of}
+use Rattle.board_model.specs.declared.op.Want.{Want}
 use Rattle.board_model.specs.declared.agents.Target.{Target as TargetAgent}
 use Rattle.board_model.specs.declared.bridge.Place.{Place}
 use Rattle.board_model.specs.declared.bridge.Place.TheVariants.{Target, Header, Lane, Nobody}
@@ -61,10 +62,10 @@ module _ (board : Board) (table : Table) (r : OpId) (aborted : Bool) where
       ]) e
 
   -- a poll that has a word has a wish
-  poll_nowhere : (space : Space) (address mask wanted tries : ℕ) → op_of board r ≡ Some (Poll space address mask wanted tries) → (found : Option Wish) → wish_of board r ≡ found
-      → said_of_poll board table r (Poll space address mask wanted tries) found ≡ Some (nowhere aborted) → words_named board r ≡ []
-  poll_nowhere space address mask wanted tries is_op (Some wish) is e = poll_some (Poll space address mask wanted tries) wish e (words_named board r ≡ [])
-  poll_nowhere space address mask wanted tries is_op None is e = by_words (words_named board r) refl
+  poll_nowhere : (space : Space) (address : ℕ) (want : Want) (tries : ℕ) → op_of board r ≡ Some (Poll space address want tries) → (found : Option Wish) → wish_of board r ≡ found
+      → said_of_poll board table r (Poll space address want tries) found ≡ Some (nowhere aborted) → words_named board r ≡ []
+  poll_nowhere space address want tries is_op (Some wish) is e = poll_some (Poll space address want tries) wish e (words_named board r ≡ [])
+  poll_nowhere space address want tries is_op None is e = by_words (words_named board r) refl
     where
       by_words : (words : List Dword) → words_named board r ≡ words → words_named board r ≡ []
       by_words [] named = named
@@ -72,7 +73,7 @@ module _ (board : Board) (table : Table) (r : OpId) (aborted : Bool) where
           let phase : Phase = record { value = 0; enables = 15 } in
           let row : InRow (word ∷ words) (phase ∷ []) = subst (InRow (word ∷ words)) (ap phases_in is_op) (subst (λ ws. InRow ws (phases_in (op_of board r))) named (in_row board r)) in
           let one : words_named board r ≡ word ∷ [] = named ∙ ap (λ ws. word ∷ ws) (row_single phase word words row) in
-          let wish : Wish = record { word = word; mask = mask; wanted = wanted } in
+          let wish : Wish = record { word = word; want = want } in
           let there : wish_of board r ≡ Some wish = ap (λ ws. wish_in ws (op_of board r)) one ∙ ap (wish_in (word ∷ [])) is_op in
           let no : ◌≡◌ {A = Option Wish} (Some wish) None = sym there ∙ is in
           cc
@@ -83,7 +84,7 @@ module _ (board : Board) (table : Table) (r : OpId) (aborted : Bool) where
   as_nowhere (Some (Write command address phases)) is e = write_nowhere (Write command address phases) (words_named board r) e (words_named board r ≡ [])
   as_nowhere (Some (CfgRead bus device register)) is e = read_nowhere (CfgRead bus device register) (words_named board r) refl e
   as_nowhere (Some (CfgWrite bus device register phase)) is e = write_nowhere (CfgWrite bus device register phase) (words_named board r) e (words_named board r ≡ [])
-  as_nowhere (Some (Poll space address mask wanted tries)) is e = poll_nowhere space address mask wanted tries is (wish_of board r) refl e
+  as_nowhere (Some (Poll space address want tries)) is e = poll_nowhere space address want tries is (wish_of board r) refl e
 
   nowhere_names : said_of board table r ≡ Some (nowhere aborted) → words_named board r ≡ []
   nowhere_names e =

@@ -12,6 +12,7 @@ use Rattle.pci_command.specs.declared.op_id.OpId.{OpId}
 use Rattle.pci_command.specs.declared.op_id.Outcome.{Outcome}
 use Rattle.pci_command.specs.Command.{plain_of, is_read}
 use Rattle.pci_command.specs.Same.{same_op}
+use Rattle.board_model.specs.declared.op.Want.{Want}
 use Rattle.board_model.specs.declared.bridge.Place.{Place}
 use Rattle.board_model.specs.declared.bridge.Place.TheVariants.{Target, Header, Lane, Nobody}
 use Rattle.board_model.specs.declared.op.Op.{Op}
@@ -164,7 +165,7 @@ module _ (board : Board) (table : Table) (r : OpId) where
   as_safe (Some (Write command address phases)) is_op word value e = write_none (Write command address phases) (words_named board r) word value e (SaidSafe board table r word value)
   as_safe (Some (CfgRead bus device register)) is_op word value e = read_safe (CfgRead bus device register) (record { value = 0; enables = 15 }) word value is_op refl refl (λ _. refl) (words_named board r) refl e
   as_safe (Some (CfgWrite bus device register phase)) is_op word value e = write_none (CfgWrite bus device register phase) (words_named board r) word value e (SaidSafe board table r word value)
-  as_safe (Some (Poll space address mask wanted tries)) is_op word value e = poll_none (Poll space address mask wanted tries) (wish_of board r) word value e (SaidSafe board table r word value)
+  as_safe (Some (Poll space address want tries)) is_op word value e = poll_none (Poll space address want tries) (wish_of board r) word value e (SaidSafe board table r word value)
 
   -- what something is said of is reached
   reached_said : (said : Said) → said_of board table r ≡ Some said → said_as board table r (op_of board r) ≡ Some said
@@ -328,14 +329,14 @@ module _ (board : Board) (table : Table) (p : OpId) where
   as_vain (Some (Write command address phases)) e = write_vain (Write command address phases) (words_named board p) e
   as_vain (Some (CfgRead bus device register)) e = read_vain (CfgRead bus device register) (words_named board p) e
   as_vain (Some (CfgWrite bus device register phase)) e = write_vain (CfgWrite bus device register phase) (words_named board p) e
-  as_vain (Some (Poll space address mask wanted tries)) e = poll_vain (Poll space address mask wanted tries) (wish_of board p) refl e
+  as_vain (Some (Poll space address want tries)) e = poll_vain (Poll space address want tries) (wish_of board p) refl e
 
-  is_vain : SaidVain → (mask : ℕ) × (wanted : ℕ) × IsVain board table p mask wanted
+  is_vain : SaidVain → (want : Want) × IsVain board table p want
   is_vain said =
       let wish : Wish = said.0 in
       let has = has_wish board p wish said.1 in
       let two = and_parts (is_firm board wish) (opens_out board table p wish) said.2 in
-      let none : (f : OpId) → Raises board wish.mask wish.wanted wish.word f → LeftOut board table p wish.word f ⊎ IsBefore board table f f = λ f raises_it.
+      let none : (f : OpId) → Raises board wish.want wish.word f → LeftOut board table p wish.word f ⊎ IsBefore board table f f = λ f raises_it.
       ⊎_elim {C = LeftOut board table p wish.word f ⊎ IsBefore board table f f}
       (λ (left : is_left_out board table p wish.word f ≡ true). inl (left_is board table p wish.word f left))
       (λ (stays : is_left_out board table p wish.word f ≡ false).
@@ -351,8 +352,7 @@ module _ (board : Board) (table : Table) (p : OpId) where
       (λ (unreached : is_reached board table f ≡ false). inr (not_reached board table f unreached))
       (either_way (is_reached board table f)))
       (either_way (is_left_out board table p wish.word f)) in (
-        wish.mask,
-        wish.wanted,
+        wish.want,
         record {
           awaits = has.awaits;
           word = wish.word;
@@ -385,9 +385,9 @@ module _ (board : Board) (table : Table) (p : OpId) (word : Dword) where
   first_left : (f : OpId) → LeftOut board table (at_place p.master p.index) word f → LeftOut board table p word f
   first_left f is = record { x = is.x; earlier = first_before is.x is.earlier; other = is.other; no_more = is.no_more }
 
-  first_vain : (mask wanted : ℕ) (op : Op) → op_of board p ≡ Some op → Awaits board p mask wanted → (is : IsVain board table (at_place p.master p.index) mask wanted) → is.word ≡ word → IsVain board table p mask wanted
-  first_vain mask wanted op is_op awaits is here =
-      let L : Dword → Type 0 = λ d. (f : OpId) → Raises board mask wanted d f → LeftOut board table (at_place p.master p.index) d f ⊎ IsBefore board table f f in
+  first_vain : (want : Want) (op : Op) → op_of board p ≡ Some op → Awaits board p want → (is : IsVain board table (at_place p.master p.index) want) → is.word ≡ word → IsVain board table p want
+  first_vain want op is_op awaits is here =
+      let L : Dword → Type 0 = λ d. (f : OpId) → Raises board want d f → LeftOut board table (at_place p.master p.index) d f ⊎ IsBefore board table f f in
       let none : L word = subst L here is.raisers in
       let named : words_named board (at_place p.master p.index) ≡ word ∷ [] = is.firm.has_word ∙ ap (λ d. d ∷ []) here in
       record {
@@ -396,33 +396,32 @@ module _ (board : Board) (table : Table) (p : OpId) (word : Dword) where
         firm = record {
           has_word = first_words board p op is_op ∙ named;
           plain = subst (λ d. is_plain d.space ≡ true) here is.firm.plain;
-          whole = subst (λ d. (f : OpId) → list_all (is_whole mask) (phases_to board d f) ≡ true) here is.firm.whole;
-          last = subst (λ d. (f : OpId) → Raises board mask wanted d f → IsLastWord board d f) here is.firm.last;
+          whole = subst (λ d. (f : OpId) → list_all (is_whole want.mask) (phases_to board d f) ≡ true) here is.firm.whole;
+          last = subst (λ d. (f : OpId) → Raises board want d f → IsLastWord board d f) here is.firm.last;
         };
-        opens = ⊎_elim {C = OpensOut board table p mask wanted word}
-            (λ (out : is_met_by mask wanted (opens_as board word) ≡ false). inl out)
+        opens = ⊎_elim {C = OpensOut board table p want word}
+            (λ (out : is_met_by want (opens_as board word) ≡ false). inl out)
             (λ (some : (x : OpId) × WritesBefore board table (at_place p.master p.index) word x). inr (some.0, first_before some.0 some.1))
-            (subst (OpensOut board table (at_place p.master p.index) mask wanted) here is.opens);
+            (subst (OpensOut board table (at_place p.master p.index) want) here is.opens);
         raisers = λ f raises_it. ⊎_elim {C = LeftOut board table p word f ⊎ IsBefore board table f f}
             (λ (left : LeftOut board table (at_place p.master p.index) word f). inl (first_left f left))
             (λ (unreached : IsBefore board table f f). inr unreached)
             (none f raises_it);
       }
 
-same_awaits : (board : Board) (p : OpId) (m w mask wanted : ℕ) → Awaits board p m w → Awaits board p mask wanted → (X : ℕ → ℕ → Type 0) → X m w → X mask wanted
-same_awaits board p m w mask wanted it awaits X is =
-    let e : ◌≡◌ {A = Option Op} (Some (Poll it.0 it.1 m w it.2)) (Some (Poll awaits.0 awaits.1 mask wanted awaits.2)) = sym it.3 ∙ awaits.3 in
-    let masks : m ≡ mask = cc in
-    let wants : w ≡ wanted = cc in
-    subst (λ n. X n wanted) masks (subst (X m) wants is)
+same_awaits : (board : Board) (p : OpId) (found want : Want) → Awaits board p found → Awaits board p want → (X : Want → Type 0) → X found → X want
+same_awaits board p found want it awaits X is =
+    let e : ◌≡◌ {A = Option Op} (Some (Poll it.0 it.1 found it.2)) (Some (Poll awaits.0 awaits.1 want awaits.2)) = sym it.3 ∙ awaits.3 in
+    let same : found ≡ want = cc in
+    subst X same is
 
-pub said_not_met : (board : Board) (table : Table) (e : Event) (h : List Event) (p : OpId) (mask wanted : ℕ) (outcome : Outcome) → IsValid board → IsLargest board table → said_of board table (at_place p.master p.index) ≡ Some vain → Awaits board p mask wanted → Run board (e ∷ h)
-    → ended e ≡ Some (record { op = p; outcome = outcome }) → meets mask wanted outcome ≡ false
-said_not_met board table e h p mask wanted outcome valid is_largest said awaits run ends =
+pub said_not_met : (board : Board) (table : Table) (e : Event) (h : List Event) (p : OpId) (want : Want) (outcome : Outcome) → IsValid board → IsLargest board table → said_of board table (at_place p.master p.index) ≡ Some vain → Awaits board p want → Run board (e ∷ h)
+    → ended e ≡ Some (record { op = p; outcome = outcome }) → meets want outcome ≡ false
+said_not_met board table e h p want outcome valid is_largest said awaits run ends =
     let first : OpId = at_place p.master p.index in
-    let op : Op = Poll awaits.0 awaits.1 mask wanted awaits.2 in
-    let first_awaits : Awaits board first mask wanted = (awaits.0, awaits.1, awaits.2, first_op board p op awaits.3) in
+    let op : Op = Poll awaits.0 awaits.1 want awaits.2 in
+    let first_awaits : Awaits board first want = (awaits.0, awaits.1, awaits.2, first_op board p op awaits.3) in
     let it = is_vain board table first (as_vain board table first (op_of board first) (reached_said board table first vain said)) in
-    let is_first : IsVain board table first mask wanted = same_awaits board first it.0 it.1 mask wanted it.2.awaits first_awaits (λ m w. IsVain board table first m w) it.2 in
-    let is : IsVain board table p mask wanted = first_vain board table p is_first.word mask wanted op awaits.3 awaits is_first refl in
-    never_met board valid table is_largest.consistent e h p mask wanted outcome is run ends
+    let is_first : IsVain board table first want = same_awaits board first it.0 want it.1.awaits first_awaits (IsVain board table first) it.1 in
+    let is : IsVain board table p want = first_vain board table p is_first.word want op awaits.3 awaits is_first refl in
+    never_met board valid table is_largest.consistent e h p want outcome is run ends

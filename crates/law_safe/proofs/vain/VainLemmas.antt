@@ -3,6 +3,7 @@ use Rattle.std.proofs.Common.{◌≡◌, ℕ, ◌<◌, Bool, true, false, List, 
 use Rattle.std.specs.List.{list_any}
 use Rattle.pci_command.specs.declared.op_id.OpId.{OpId}
 use Rattle.pci_command.specs.declared.op_id.Outcome.{Outcome}
+use Rattle.board_model.specs.declared.op.Want.{Want}
 use Rattle.board_model.specs.declared.bridge.Place.{Place}
 use Rattle.board_model.specs.declared.board.Board.{Board}
 use Rattle.board_model.specs.Requests.{op_of}
@@ -121,14 +122,14 @@ module _ (board : Board) (valid : IsValid board) (table : Table) (consistent : I
   pub no_landing : IsBefore board table c c → (h : List Event) (word : Dword) → Run board h → list_any (is_landing_of c) (landed board h word) ≡ true → ⊥
   no_landing unreached h word run lands = never_was unreached h run (landed_was h c word run lands refl refl)
 
-pub never_met : (board : Board) (valid : IsValid board) (table : Table) (consistent : IsConsistent board table) (e : Event) (h : List Event) (p : OpId) (mask wanted : ℕ) (outcome : Outcome) → IsVain board table p mask wanted → Run board (e ∷ h) → ended e ≡ Some (record { op = p; outcome = outcome })
-    → meets mask wanted outcome ≡ false
-never_met board valid table consistent e h p mask wanted outcome vain run ends =
-    let P : Bool → Type 0 = λ b. meets mask wanted outcome ≡ b → b ≡ false in
-    (elim (meets mask wanted outcome) as P [
+pub never_met : (board : Board) (valid : IsValid board) (table : Table) (consistent : IsConsistent board table) (e : Event) (h : List Event) (p : OpId) (want : Want) (outcome : Outcome) → IsVain board table p want → Run board (e ∷ h) → ended e ≡ Some (record { op = p; outcome = outcome })
+    → meets want outcome ≡ false
+never_met board valid table consistent e h p want outcome vain run ends =
+    let P : Bool → Type 0 = λ b. meets want outcome ≡ b → b ≡ false in
+    (elim (meets want outcome) as P [
       | false ↦ λ _. refl
       | true ↦ λ is_met.
-          let it = (Sound-run board valid table consistent (e ∷ h) run).0 p mask wanted vain.awaits outcome ends is_met vain.word vain.firm vain.opens in
+          let it = (Sound-run board valid table consistent (e ∷ h) run).0 p want vain.awaits outcome ends is_met vain.word vain.firm vain.opens in
           let f : OpId = it.raised.last.op in
           let run_b : Run board it.met.reading.before = front_run board it.met.reading.before h it.met.before run.1 in
           absurd (⊎_elim {C = ⊥} (λ (left : LeftOut board table p vain.word f). it.stays left) (λ (unreached : IsBefore board table f f). no_landing board valid table consistent f unreached it.met.reading.before vain.word run_b it.raised.lands) (vain.raisers f it.raised.raises))

@@ -17,6 +17,10 @@ const LAST_IS: WantedWord = WantedWord("last", WordKind::Fixed);
 
 const BELL_IS: WantedWord = WantedWord("bell", WordKind::Fixed);
 
+const IS: WantedWord = WantedWord("is", WordKind::Fixed);
+
+const ANY: WantedWord = WantedWord("any", WordKind::Fixed);
+
 const WAIT_IS: WantedWord = WantedWord("wait", WordKind::Fixed);
 
 const SPACE: WantedWord = WantedWord("mem or io", WordKind::Fixed);
@@ -97,6 +101,8 @@ enum More {
     Data,
     /// Options of a bridge.
     Options,
+    /// What a read should return, or that it may return anything.
+    Tail,
 }
 
 /// The first words of the lines of a form, what their further words are, and what may stand behind.
@@ -122,14 +128,22 @@ static BOARD_FORMS: [WordsOfLine; 18] = [
     ),
     ("word", &[SPACE, ADDRESS_THERE, VALUE], More::Nothing),
     ("discard drop", &[BUS, DIRECTION, PLANNED], More::Nothing),
-    ("mr mrl mrm", &[ADDRESS], More::Nothing),
+    ("mr mrl mrm", &[ADDRESS], More::Tail),
     ("mw mwi", &[ADDRESS], More::Data),
-    ("ior", &[PORT], More::Nothing),
+    ("ior", &[PORT], More::Tail),
     ("iow", &[PORT, DATA], More::Nothing),
-    ("cfr", &[BUS, DEV, REGISTER], More::Nothing),
+    ("cfr", &[BUS, DEV, REGISTER], More::Tail),
     ("cfw", &[BUS, DEV, REGISTER, DATA], More::Nothing),
-    ("poll", &[ADDRESS, MASK, VALUE, TRIES], More::Nothing),
-    ("iopoll", &[PORT, MASK, VALUE, TRIES], More::Nothing),
+    (
+        "poll pollnot",
+        &[ADDRESS, MASK, VALUE, TRIES],
+        More::Nothing,
+    ),
+    (
+        "iopoll iopollnot",
+        &[PORT, MASK, VALUE, TRIES],
+        More::Nothing,
+    ),
 ];
 
 /// The lines of devices.
@@ -145,7 +159,7 @@ static DEVICE_FORMS: [WordsOfLine; 7] = [
         More::Nothing,
     ),
     ("put", &[PORT, LENGTH, SEED], More::Nothing),
-    ("get look", &[PORT], More::Nothing),
+    ("get look", &[PORT], More::Tail),
     ("send", &[PORT, MESSAGE, VECTORS, VECTOR], More::Nothing),
     ("wait", &[PORT, VALUE, TRIES], More::Nothing),
     ("word", &[PORT, VALUE], More::Nothing),
@@ -199,6 +213,19 @@ fn wanted_in(form: &WordsOfLine, line: &[u8], place: usize) -> Option<WantedWord
             let (option, within) = option_from(line, behind(form), place)?;
             option.1.get(within.checked_sub(1)?).copied()
         }
+        (None, More::Tail) => wanted_in_tail(line, behind(form), place),
+    }
+}
+
+/// What a place of the tail of a read is read as, which begins at `from`.
+fn wanted_in_tail(line: &[u8], from: usize, place: usize) -> Option<WantedWord> {
+    let first = word_at(line, from)?;
+    let behind = place.checked_sub(from)?;
+    match (behind, first) {
+        (0, b"is") => Some(IS),
+        (0, b"any") => Some(ANY),
+        (1, b"is") => Some(VALUE),
+        _ => None,
     }
 }
 
@@ -221,7 +248,7 @@ pub(super) fn option_at(line: &[u8], place: usize) -> Option<&'static str> {
     let form = form_in(&BOARD_FORMS, line)?;
     let (option, _) = match form.2 {
         More::Options => option_from(line, behind(form), place)?,
-        More::Nothing | More::Data => return None,
+        More::Nothing | More::Data | More::Tail => return None,
     };
     Some(option.0)
 }

@@ -38,7 +38,11 @@ static WRONG_WORD: [Sentence; 2] = [
     ),
 ];
 
-static TOO_MANY: [Sentence; 2] = [
+static TOO_MANY: [Sentence; 3] = [
+    (
+        "mr mrl mrm ior cfr",
+        "behind the words of a read stands is VALUE, or any, or nothing",
+    ),
     (
         "bridge",
         "options stand once each, in this order: mem pref io posted delayed abort",
@@ -163,7 +167,7 @@ fn special(case: &Case, fault: LineFault) -> Option<&'static str> {
     }
 }
 
-/// What is said of a byte that no line of a board may have.
+/// What is said of a byte that may not stand where it stands in a line of a board.
 fn sentence_of_byte(case: &Case) -> &'static str {
     let (line, at) = (case.line, case.at);
     if is_end_of_line(line, at) {
@@ -173,7 +177,7 @@ fn sentence_of_byte(case: &Case) -> &'static str {
         return BYTE_ORDER_MARK;
     }
     match line.get(at) {
-        Some(byte) if *byte >= 0x80 => "a byte outside ASCII; comments are ASCII too",
+        Some(byte) if *byte >= 0x80 => "a byte outside ASCII, and not in a comment",
         _ => "a byte that is no printing character and no tab",
     }
 }

@@ -56,15 +56,18 @@ const BOARD: &str = "pcitree help board: the lines of a board file\n\
     \x20     mw ADDR WORD .., mwi ADDR WORD .., iow ADDR WORD   write (WORD/E: only\n\
     \x20                              the bytes that E enables)\n\
     \x20     poll ADDR MASK VALUE TRIES, iopoll ..              read until it is VALUE\n\
+    \x20     pollnot ADDR MASK VALUE TRIES, iopollnot ..        until it is another\n\
     \x20     cfr B D REG, cfw B D REG WORD                      configuration\n\
+    \x20     behind a read: is VALUE (what it should return), or any; neither is\n\
+    \x20                              part of the board\n\
     \x20 discard B down|up K          the K-th completion there is lost\n\
     \x20 drop B down|up K             the K-th request there is lost\n\
     \n\
     Addresses, sizes, masks and values: hexadecimal, 1 to 8 digits, without 0x.\n\
     Other numbers: decimal. A range has a base and a size, a window a base and a\n\
     limit. NAME: 1 to 16 letters, digits, _ and -, beginning with a letter. A\n\
-    comment begins with #. A line has at most 256 bytes of ASCII and ends with a\n\
-    newline.\n\
+    comment begins with #, and only it may have bytes outside ASCII. A line has\n\
+    at most 256 bytes and ends with a newline.\n\
     \n\
     Example:\n\
     \n\
@@ -127,10 +130,11 @@ const DEVICE: &str = "pcitree help device: the lines of a device file\n\
     \x20                              in blocks of 32\n\
     \x20     send ADDR DATA VECTORS V a message: one dword, vector V of VECTORS in the\n\
     \x20                              low bits of DATA\n\
-    \x20     get ADDR                 reads a dword\n\
+    \x20     get ADDR                 reads a dword (then is VALUE or any, as a read\n\
+    \x20                              of a board)\n\
     \x20 handler NAME on BUS wait ADDR VALUE TRIES\n\
     \x20                              on that bus; first waits for the message\n\
-    \x20     look ADDR                reads a dword\n\
+    \x20     look ADDR                reads a dword (the same)\n\
     \x20 wait ADDR VALUE TRIES        in either: waits again\n\
     \x20 word ADDR VALUE              in either: writes a dword\n\
     \n\

@@ -84,7 +84,7 @@ once (ReadOp command address) no_poll = refl
 once (Write command address phases) no_poll = refl
 once (CfgRead bus device register) no_poll = refl
 once (CfgWrite bus device register phase) no_poll = refl
-once (Poll space address mask value tries) no_poll = cc
+once (Poll space address want tries) no_poll = cc
 
 -- and behind it comes the next operation
 follows_next : (board : Board) (o : OpId) (outcome : Outcome) (op : Op) → is_no_poll op ≡ true → follows_op board o outcome op ≡ next_op board o
@@ -92,7 +92,7 @@ follows_next board o outcome (ReadOp command address) no_poll = refl
 follows_next board o outcome (Write command address phases) no_poll = refl
 follows_next board o outcome (CfgRead bus device register) no_poll = refl
 follows_next board o outcome (CfgWrite bus device register phase) no_poll = refl
-follows_next board o outcome (Poll space address mask value tries) no_poll = cc
+follows_next board o outcome (Poll space address want tries) no_poll = cc
 
 module _ (board : Board) (steady : IsSteady board) (weight : Weight) where
   straight : (i : ℕ) (master : MasterAgent) → slice_get board.masters i ≡ Some master → (j : ℕ) (op : Op) → slice_get master.ops j ≡ Some op → is_no_poll op ≡ true

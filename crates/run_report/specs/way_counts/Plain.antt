@@ -17,7 +17,7 @@ is_no_poll (Read command address) = true
 is_no_poll (Write command address phases) = true
 is_no_poll (CfgRead bus device register) = true
 is_no_poll (CfgWrite bus device register phase) = true
-is_no_poll (Poll space address mask value tries) = false
+is_no_poll (Poll space address want tries) = false
 
 -- a program without polls
 abbrev pub is_straight : Master → Bool

@@ -5,6 +5,7 @@ use Rattle.std.proofs.lemmas.Bool.{and_parts}
 use Rattle.std.proofs.lemmas.Bool.Decides.{nat_tests}
 use Rattle.pci_command.specs.declared.op_id.OpId.{OpId}
 use Rattle.pci_command.specs.Same.{same_op}
+use Rattle.board_model.specs.declared.op.Want.{Want}
 use Rattle.board_model.specs.declared.op.Op.{Op}
 use Rattle.board_model.specs.declared.op.Op.TheVariants.{Read, Write, CfgRead, CfgWrite, Poll}
 use Rattle.board_model.specs.declared.board.Board.{Board}
@@ -71,14 +72,14 @@ module _ (f : OpId → ℕ) where
 
 -- What a poll waits for.
 
-wish_is : (board : Board) (p : OpId) (mask wanted : ℕ) (word : Dword) → Awaits board p mask wanted → words_named board p ≡ word ∷ [] → wish_of board p ≡ Some (record { word = word; mask = mask; wanted = wanted })
-wish_is board p mask wanted word awaits has_word =
+wish_is : (board : Board) (p : OpId) (want : Want) (word : Dword) → Awaits board p want → words_named board p ≡ word ∷ [] → wish_of board p ≡ Some (record { word = word; want = want })
+wish_is board p want word awaits has_word =
     ap (λ ws. wish_in ws (op_of board p)) has_word ∙ ap (wish_in (word ∷ [])) awaits.3
 
 -- a poll that has a word
 pub record HasWish (board : Board) (p : OpId) (wish : Wish) : Type 0 where
   pub has_word : words_named board p ≡ wish.word ∷ []
-  pub awaits : Awaits board p wish.mask wish.wanted
+  pub awaits : Awaits board p wish.want
 
 pub has_wish : (board : Board) (p : OpId) (wish : Wish) → wish_of board p ≡ Some wish → HasWish board p wish
 has_wish board p wish is = by_words (words_named board p) refl is
@@ -89,8 +90,8 @@ has_wish board p wish is = by_words (words_named board p) refl is
     by_op word (Some (Write command address phases)) has_word is_op e = cc
     by_op word (Some (CfgRead bus device register)) has_word is_op e = cc
     by_op word (Some (CfgWrite bus device register phase)) has_word is_op e = cc
-    by_op word (Some (Poll space address mask wanted tries)) has_word is_op e =
-        let built : Wish = record { word = word; mask = mask; wanted = wanted } in
+    by_op word (Some (Poll space address want tries)) has_word is_op e =
+        let built : Wish = record { word = word; want = want } in
         let made : HasWish board p built = record { has_word = has_word; awaits = (space, address, tries, is_op) } in
         let same : built ≡ wish = cc in
         subst (HasWish board p) same made
@@ -104,12 +105,12 @@ has_wish board p wish is = by_words (words_named board p) refl is
 
 module _ (board : Board) (table : Table) (p : OpId) (wish : Wish) where
   -- a raiser that stays is listed, and what is listed is one
-  kept_raises : (f : OpId) → (raises board wish f && not (is_left_out board table p wish.word f)) ≡ true → Raises board wish.mask wish.wanted wish.word f × (is_left_out board table p wish.word f ≡ false)
+  kept_raises : (f : OpId) → (raises board wish f && not (is_left_out board table p wish.word f)) ≡ true → Raises board wish.want wish.word f × (is_left_out board table p wish.word f ≡ false)
   kept_raises f is =
       let two = and_parts (raises board wish f) (not (is_left_out board table p wish.word f)) is in
       (two.0, not_false (is_left_out board table p wish.word f) two.1)
 
-  pub known_below : (f : OpId) (other : ℕ) → Raises board wish.mask wish.wanted wish.word f → is_left_out board table p wish.word f ≡ false → known_by_all board table (raisers board table p wish) other ≤ clock_with board table f other
+  pub known_below : (f : OpId) (other : ℕ) → Raises board wish.want wish.word f → is_left_out board table p wish.word f ≡ false → known_by_all board table (raisers board table p wish) other ≤ clock_with board table f other
   known_below f other raises_it stays =
       let raises_so : raises board wish f ≡ true = raises_it in
       let both : (raises board wish f && not (is_left_out board table p wish.word f)) ≡ true = rw (raises_so, stays) refl in
@@ -120,7 +121,7 @@ module _ (board : Board) (table : Table) (p : OpId) (wish : Wish) where
       ∙ some_write board wish.word (λ g. (raises board wish g && not (is_left_out board table p wish.word g)) && same_op f g) f (raises_brings board wish f raises_it) twice in
       least_of (λ g. clock_with board table g other) (program_of board other) (raisers board table p wish) f among
 
-  pub below_known : (x other : ℕ) → x ≤ program_of board other → ((f : OpId) → Raises board wish.mask wish.wanted wish.word f → is_left_out board table p wish.word f ≡ false → x ≤ clock_with board table f other) → x ≤ known_by_all board table (raisers board table p wish) other
+  pub below_known : (x other : ℕ) → x ≤ program_of board other → ((f : OpId) → Raises board wish.want wish.word f → is_left_out board table p wish.word f ≡ false → x ≤ clock_with board table f other) → x ≤ known_by_all board table (raisers board table p wish) other
   below_known x other most each =
       least_from (λ g. clock_with board table g other) x (program_of board other) (λ f. raises board wish f && not (is_left_out board table p wish.word f)) (writes_of board wish.word) most
       (λ f keeps. let it = kept_raises f keeps in each f it.0 it.1)
@@ -134,9 +135,9 @@ module _ (board : Board) (table : Table) (p : OpId) (wish : Wish) where
   told_none other none = rw none refl
 
 -- so what is known by the raisers is told
-raisers_told : (board : Board) (table : Table) (p : OpId) (mask wanted other : ℕ) → IsWithin board table → Awaits board p mask wanted → RaisersKnow board table p mask wanted other → table p.master p.index other ≤ told_to board table p (wish_of board p) other
-raisers_told board table p mask wanted other within awaits known =
-    let wish : Wish = record { word = known.0; mask = mask; wanted = wanted } in
+raisers_told : (board : Board) (table : Table) (p : OpId) (want : Want) (other : ℕ) → IsWithin board table → Awaits board p want → RaisersKnow board table p want other → table p.master p.index other ≤ told_to board table p (wish_of board p) other
+raisers_told board table p want other within awaits known =
+    let wish : Wish = record { word = known.0; want = want } in
     let firm : is_firm board wish ≡ true = is_firm_so board wish p known.1 in
     let opens : opens_out board table p wish ≡ true = is_opens board table p wish known.2 in
     let x : ℕ = table p.master p.index other in
@@ -147,65 +148,64 @@ raisers_told board table p mask wanted other within awaits known =
     (known.3 f raises_it)) in
     let T : ℕ → Type 0 = λ n. x ≤ n in
     let here : T (told_to board table p (Some wish) other) = subst T (sym (told_where board table p wish other firm opens)) below in
-    subst (λ found. T (told_to board table p found other)) (sym (wish_is board p mask wanted known.0 awaits known.1.has_word)) here
+    subst (λ found. T (told_to board table p found other)) (sym (wish_is board p want known.0 awaits known.1.has_word)) here
 
-told_raisers : (board : Board) (table : Table) (p : OpId) (mask wanted other : ℕ) → Awaits board p mask wanted → table p.master p.index other ≤ told_to board table p (wish_of board p) other → IsKnown board table p mask wanted other
-told_raisers board table p mask wanted other awaits told = by_wish (wish_of board p) refl told
+told_raisers : (board : Board) (table : Table) (p : OpId) (want : Want) (other : ℕ) → Awaits board p want → table p.master p.index other ≤ told_to board table p (wish_of board p) other → IsKnown board table p want other
+told_raisers board table p want other awaits told = by_wish (wish_of board p) refl told
   where
-    same_awaits : (m w : ℕ) → Awaits board p m w → (X : ℕ → ℕ → Type 0) → X m w → X mask wanted
-    same_awaits m w it X is =
-        let e : ◌≡◌ {A = Option Op} (Some (Poll it.0 it.1 m w it.2)) (Some (Poll awaits.0 awaits.1 mask wanted awaits.2)) = sym it.3 ∙ awaits.3 in
-        let masks : m ≡ mask = cc in
-        let wants : w ≡ wanted = cc in
-        subst (λ n. X n wanted) masks (subst (X m) wants is)
+    same_awaits : (found : Want) → Awaits board p found → (X : Want → Type 0) → X found → X want
+    same_awaits found it X is =
+        let e : ◌≡◌ {A = Option Op} (Some (Poll it.0 it.1 found it.2)) (Some (Poll awaits.0 awaits.1 want awaits.2)) = sym it.3 ∙ awaits.3 in
+        let same : found ≡ want = cc in
+        subst X same is
 
-    of_wish : (wish : Wish) → HasWish board p wish → table p.master p.index other ≤ told_to board table p (Some wish) other → IsKnown board table p mask wanted other
+    of_wish : (wish : Wish) → HasWish board p wish → table p.master p.index other ≤ told_to board table p (Some wish) other → IsKnown board table p want other
     of_wish wish has told_it =
-        let P : Bool → Type 0 = λ b. (is_firm board wish && opens_out board table p wish) ≡ b → table p.master p.index other ≤ cond b (known_by_all board table (raisers board table p wish) other) 0 → IsKnown board table p mask wanted other in
+        let P : Bool → Type 0 = λ b. (is_firm board wish && opens_out board table p wish) ≡ b → table p.master p.index other ≤ cond b (known_by_all board table (raisers board table p wish) other) 0 → IsKnown board table p want other in
         (elim (is_firm board wish && opens_out board table p wish) as P [
           | true ↦ λ both below.
               let two = and_parts (is_firm board wish) (opens_out board table p wish) both in
               let firm = firm_is board wish p has.has_word two.0 in
               let opens = opens_is board table p wish two.1 in
-              let known : (f : OpId) → Raises board wish.mask wish.wanted wish.word f → RaiserKnows board table p wish.word other f = λ f raises_it.
+              let known : (f : OpId) → Raises board wish.want wish.word f → RaiserKnows board table p wish.word other f = λ f raises_it.
               ⊎_elim {C = RaiserKnows board table p wish.word other f}
               (λ (left : is_left_out board table p wish.word f ≡ true). inl (left_is board table p wish.word f left))
               (λ (stays : is_left_out board table p wish.word f ≡ false). let most = known_below board table p wish f other raises_it stays in inr (omega (arith, below, most)))
               (either_way (is_left_out board table p wish.word f)) in
-              inr (same_awaits wish.mask wish.wanted has.awaits (λ m w. RaisersKnow board table p m w other) (wish.word, firm, opens, known))
+              inr (same_awaits wish.want has.awaits (λ w. RaisersKnow board table p w other) (wish.word, firm, opens, known))
           | false ↦ λ _ none. inl (omega (arith, none))
         ]) refl told_it
 
-    by_wish : (found : Option Wish) → wish_of board p ≡ found → table p.master p.index other ≤ told_to board table p found other → IsKnown board table p mask wanted other
+    by_wish : (found : Option Wish) → wish_of board p ≡ found → table p.master p.index other ≤ told_to board table p found other → IsKnown board table p want other
     by_wish None is told_it = inl (omega (arith, told_it))
     by_wish (Some wish) is told_it = of_wish wish (has_wish board p wish is) told_it
 
 -- A poll awaits something.
 
-awaits_poll : (board : Board) (p : OpId) (mask wanted : ℕ) → Awaits board p mask wanted → is_poll (op_of board p) ≡ true
-awaits_poll board p mask wanted awaits = ap is_poll awaits.3
+awaits_poll : (board : Board) (p : OpId) (want : Want) → Awaits board p want → is_poll (op_of board p) ≡ true
+awaits_poll board p want awaits = ap is_poll awaits.3
 
-pub poll_awaits : (board : Board) (p : OpId) → is_poll (op_of board p) ≡ true → (mask : ℕ) × (wanted : ℕ) × Awaits board p mask wanted
+pub poll_awaits : (board : Board) (p : OpId) → is_poll (op_of board p) ≡ true → (want : Want) × Awaits board p want
 poll_awaits board p is = by_op (op_of board p) refl is
   where
-    by_op : (op : Option Op) → op_of board p ≡ op → is_poll op ≡ true → (mask : ℕ) × (wanted : ℕ) × Awaits board p mask wanted
+    by_op : (op : Option Op) → op_of board p ≡ op → is_poll op ≡ true → (want : Want) × Awaits board p want
     by_op None is_op e = cc
     by_op (Some (Read command address)) is_op e = cc
     by_op (Some (Write command address phases)) is_op e = cc
     by_op (Some (CfgRead bus device register)) is_op e = cc
     by_op (Some (CfgWrite bus device register phase)) is_op e = cc
-    by_op (Some (Poll space address mask wanted tries)) is_op e = (mask, wanted, (space, address, tries, is_op))
+    by_op (Some (Poll space address want tries)) is_op e = (want, (space, address, tries, is_op))
 
 -- A poll is one by each of its tries.
 
 pub first_try : (board : Board) (p : OpId) → is_poll (op_of board p) ≡ true → is_poll (op_of board (at_place p.master p.index)) ≡ true
 first_try board p is =
     let awaits = poll_awaits board p is in
-    let there = op_there board p (Poll awaits.2.0 awaits.2.1 awaits.0 awaits.1 awaits.2.2) awaits.2.3 in
+    let there = op_there board p (Poll awaits.1.0 awaits.1.1 awaits.0 awaits.1.2) awaits.1.3 in
     let tried = there.tried in
-    let some : nat_lt 0 awaits.2.2 ≡ true = grind (arith, nat_tests) in
+    let some : nat_lt 0 awaits.1.2 ≡ true = grind (arith, nat_tests) in
     let is_master : slice_get board.masters p.master ≡ Some there.master = there.is_master in
-    let is_op : slice_get there.master.ops p.index ≡ Some (Poll awaits.2.0 awaits.2.1 awaits.0 awaits.1 awaits.2.2) = there.is_op in
+    let is_op : slice_get there.master.ops p.index ≡ Some (Poll awaits.1.0 awaits.1.1 awaits.0 awaits.1.2) = there.is_op in
     rw (is_master, is_op, some) refl
 
 split_greater : (x a b : ℕ) → x ≤ greater a b → (x ≤ a) ⊎ (x ≤ b)
@@ -224,20 +224,20 @@ consistent_passes board table within consistent p is other =
     let told : ℕ = told_to board table p (wish_of board p) other in
     ⊎_elim {C = table p.master p.index other ≤ greater clock told}
     (λ (own : table p.master p.index other ≤ clock). let most = greater_first clock told in omega (arith, own, most))
-    (λ (known : RaisersKnow board table p awaits.0 awaits.1 other).
-    let below = raisers_told board table p awaits.0 awaits.1 other within awaits.2 known in
+    (λ (known : RaisersKnow board table p awaits.0 other).
+    let below = raisers_told board table p awaits.0 other within awaits.1 known in
     let most = greater_second clock told in
     omega (arith, below, most))
-    (consistent p awaits.0 awaits.1 awaits.2 other)
+    (consistent p awaits.0 awaits.1 other)
 
 pub passes_consistent : (board : Board) (table : Table) → PassesTests board table → IsConsistent board table
-passes_consistent board table passes p mask wanted awaits other =
+passes_consistent board table passes p want awaits other =
     let clock : ℕ = clock_of board table p other in
     let told : ℕ = told_to board table p (wish_of board p) other in
-    ⊎_elim {C = IsKnown board table p mask wanted other}
+    ⊎_elim {C = IsKnown board table p want other}
     (λ (own : table p.master p.index other ≤ clock). inl own)
-    (λ (below : table p.master p.index other ≤ told). told_raisers board table p mask wanted other awaits below)
-    (split_greater (table p.master p.index other) clock told (passes p (awaits_poll board p mask wanted awaits) other))
+    (λ (below : table p.master p.index other ≤ told). told_raisers board table p want other awaits below)
+    (split_greater (table p.master p.index other) clock told (passes p (awaits_poll board p want awaits) other))
 
 -- By a greater table more may be known.
 
@@ -248,7 +248,7 @@ told_grows board s t more p (Some wish) other =
     (elim (is_firm board wish && opens_out board s p wish) as P [
       | true ↦ λ both.
           let two = and_parts (is_firm board wish) (opens_out board s p wish) both in
-          let opens : opens_out board t p wish ≡ true = is_opens board t p wish (opens_more board s t more p wish.mask wish.wanted wish.word (opens_is board s p wish two.1)) in
+          let opens : opens_out board t p wish ≡ true = is_opens board t p wish (opens_more board s t more p wish.want wish.word (opens_is board s p wish two.1)) in
           let known : ℕ = known_by_all board s (raisers board s p wish) other in
           let below : known ≤ known_by_all board t (raisers board t p wish) other = below_known board t p wish known other (least_most (program_of board other) (map (λ f. clock_with board s f other) (raisers board s p wish))) (λ f raises_it stays.
           let stays_s : is_left_out board s p wish.word f ≡ false = ⊎_elim {C = is_left_out board s p wish.word f ≡ false}

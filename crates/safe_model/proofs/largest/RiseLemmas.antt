@@ -4,6 +4,7 @@ use Rattle.std.specs.Option.{option_map_or}
 use Rattle.std.proofs.lemmas.Bool.Decides.{nat_tests}
 use Rattle.std.proofs.lemmas.Option.{slice_get_within}
 use Rattle.pci_command.specs.declared.op_id.OpId.{OpId}
+use Rattle.board_model.specs.declared.op.Want.{Want}
 use Rattle.board_model.specs.declared.agents.Master.{Master}
 use Rattle.board_model.specs.declared.op.Op.{Op}
 use Rattle.board_model.specs.declared.board.Board.{Board}
@@ -169,16 +170,16 @@ module _ (board : Board) (table : Table) (is_largest : IsLargest board table) wh
   risen_more master index is other = greater_first (table master index other) (Known master index other)
 
   risen_consistent : IsConsistent board Risen
-  risen_consistent p mask wanted awaits other =
+  risen_consistent p want awaits other =
       let here : ℕ = table p.master p.index other in
       let there : ℕ = Known p.master p.index other in
-      let P : Bool → Type 0 = λ t. cond t there here ≡ greater here there → IsKnown board Risen p mask wanted other in
+      let P : Bool → Type 0 = λ t. cond t there here ≡ greater here there → IsKnown board Risen p want other in
       (elim (nat_lt here there) as P [
         | true ↦ λ is.
             let first = raised_least (known_by board table p.master p.index) p.master p.index other in
             let second = clock_more board table Risen risen_more p other in
             inl (omega (arith, is, first, second))
-        | false ↦ λ is. is_known_more board table Risen risen_more p mask wanted other (omega (arith, is)) (is_largest.consistent p mask wanted awaits other)
+        | false ↦ λ is. is_known_more board table Risen risen_more p want other (omega (arith, is)) (is_largest.consistent p want awaits other)
       ]) refl
 
   risen_within : IsWithin board Risen
@@ -247,17 +248,17 @@ module _ (board : Board) (table : Table) (is_largest : IsLargest board table) (t
         subst (λ m. most other ≤ raised (known_by board Changed m c.index) m (c.index + 1) other) own.0 (own_with c.index up_to other))
         (raised_cases (known_by board table c.master c.index) c.master (c.index + 1) to place below)
 
-    changed_known : (p : OpId) (mask wanted : ℕ) → Awaits board p mask wanted → (other : ℕ) → place < table p.master p.index to → Changed p.master p.index other ≤ most other → IsKnown board Changed p mask wanted other
-    changed_known p mask wanted awaits other counts few =
-        ⊎_elim {C = IsKnown board Changed p mask wanted other}
+    changed_known : (p : OpId) (want : Want) → Awaits board p want → (other : ℕ) → place < table p.master p.index to → Changed p.master p.index other ≤ most other → IsKnown board Changed p want other
+    changed_known p want awaits other counts few =
+        ⊎_elim {C = IsKnown board Changed p want other}
         (λ (own : table p.master p.index to ≤ clock_of board table p to).
         let here = spread_of p (omega (arith, own, counts)) other in
         inl (omega (arith, here, few)))
-        (λ (firm : RaisersKnow board table p mask wanted to).
+        (λ (firm : RaisersKnow board table p want to).
         inr (
           firm.0,
           firm.1,
-          opens_more board table Changed changed_more p mask wanted firm.0 firm.2,
+          opens_more board table Changed changed_more p want firm.0 firm.2,
           λ f raises.
               ⊎_elim {C = RaiserKnows board Changed p firm.0 other f}
               (λ (left : LeftOut board table p firm.0 f). inl (left_more board table Changed changed_more p firm.0 f left))
@@ -266,13 +267,13 @@ module _ (board : Board) (table : Table) (is_largest : IsLargest board table) (t
               inr (omega (arith, here, few)))
               (firm.3 f raises),
         ))
-        (is_largest.consistent p mask wanted awaits to)
+        (is_largest.consistent p want awaits to)
 
     changed_consistent : IsConsistent board Changed
-    changed_consistent p mask wanted awaits other =
-        ⊎_elim {C = IsKnown board Changed p mask wanted other}
-        (λ (same : Changed p.master p.index other ≤ table p.master p.index other). is_known_more board table Changed changed_more p mask wanted other same (is_largest.consistent p mask wanted awaits other))
-        (λ (more : (place < table p.master p.index to) × (Changed p.master p.index other ≤ most other)). changed_known p mask wanted awaits other more.0 more.1)
+    changed_consistent p want awaits other =
+        ⊎_elim {C = IsKnown board Changed p want other}
+        (λ (same : Changed p.master p.index other ≤ table p.master p.index other). is_known_more board table Changed changed_more p want other same (is_largest.consistent p want awaits other))
+        (λ (more : (place < table p.master p.index to) × (Changed p.master p.index other ≤ most other)). changed_known p want awaits other more.0 more.1)
         (changed_cases p.master p.index other)
 
     changed_within : IsWithin board Changed

@@ -8,6 +8,7 @@ use Rattle.pci_command.specs.declared.command.Space.TheVariants.{Mem, Io, Cfg}
 use Rattle.pci_command.specs.declared.phases.Phase.{Phase}
 use Rattle.pci_command.specs.declared.op_id.OpId.{OpId}
 use Rattle.pci_command.specs.Same.{same_op, same_space}
+use Rattle.board_model.specs.declared.op.Want.{Want}
 use Rattle.board_model.specs.declared.board.Board.{Board}
 use Rattle.board_model.specs.Requests.{op_of}
 use Rattle.board_model.specs.Ways.{Dword}
@@ -214,18 +215,18 @@ module _ (board : Board) (table : Table) where
       before_some (λ x. not (same_op x f) && lands_no_more board table f x) word p is.x is.earlier both
 
   -- that of what the word opens as
-  pub opens_is : (p : OpId) (wish : Wish) → opens_out board table p wish ≡ true → OpensOut board table p wish.mask wish.wanted wish.word
+  pub opens_is : (p : OpId) (wish : Wish) → opens_out board table p wish ≡ true → OpensOut board table p wish.want wish.word
   opens_is p wish is =
-      let met : Bool = is_met_by wish.mask wish.wanted (opens_as board wish.word) in
-      let P : Bool → Type 0 = λ b. met ≡ b → (not b || list_any (λ (x : OpId). true) (writes_before board table wish.word p)) ≡ true → OpensOut board table p wish.mask wish.wanted wish.word in
+      let met : Bool = is_met_by wish.want (opens_as board wish.word) in
+      let P : Bool → Type 0 = λ b. met ≡ b → (not b || list_any (λ (x : OpId). true) (writes_before board table wish.word p)) ≡ true → OpensOut board table p wish.want wish.word in
       (elim met as P [
         | true ↦ λ _ some. let found = some_before (λ (x : OpId). true) wish.word p some in inr (found.0, found.1)
         | false ↦ λ none _. inl none
       ]) refl is
 
-  pub is_opens : (p : OpId) (wish : Wish) → OpensOut board table p wish.mask wish.wanted wish.word → opens_out board table p wish ≡ true
+  pub is_opens : (p : OpId) (wish : Wish) → OpensOut board table p wish.want wish.word → opens_out board table p wish ≡ true
   is_opens p wish is =
-      let met : Bool = is_met_by wish.mask wish.wanted (opens_as board wish.word) in
+      let met : Bool = is_met_by wish.want (opens_as board wish.word) in
       let some : Bool = list_any (λ (x : OpId). true) (writes_before board table wish.word p) in
       ⊎_elim {C = opens_out board table p wish ≡ true}
       (λ (none : met ≡ false). or_left (not met) some (not_true met none))
@@ -263,28 +264,28 @@ none_whole : (mask : ℕ) (phases : List Phase) → list_any (λ (phase : Phase)
 none_whole mask [] none = refl
 none_whole mask (phase ∷ phases) none = cc
 
-none_met : (mask wanted : ℕ) (phases : List Phase) → list_any (brings_met mask wanted) phases ≡ true → list_any (λ (phase : Phase). true) phases ≡ true
-none_met mask wanted [] some = cc
-none_met mask wanted (phase ∷ phases) some = refl
+none_met : (want : Want) (phases : List Phase) → list_any (brings_met want) phases ≡ true → list_any (λ (phase : Phase). true) phases ≡ true
+none_met want [] some = cc
+none_met want (phase ∷ phases) some = refl
 
 module _ (board : Board) (wish : Wish) where
   -- what raises brings the word something
-  pub raises_brings : (f : OpId) → Raises board wish.mask wish.wanted wish.word f → brings board wish.word f ≡ true
-  raises_brings f raises_it = none_met wish.mask wish.wanted (phases_to board wish.word f) raises_it
+  pub raises_brings : (f : OpId) → Raises board wish.want wish.word f → brings board wish.word f ≡ true
+  raises_brings f raises_it = none_met wish.want (phases_to board wish.word f) raises_it
 
   -- the test of firm polls is the relation, where the poll has the word
-  pub firm_is : (p : OpId) → words_named board p ≡ wish.word ∷ [] → is_firm board wish ≡ true → Firm board p wish.mask wish.wanted wish.word
+  pub firm_is : (p : OpId) → words_named board p ≡ wish.word ∷ [] → is_firm board wish ≡ true → Firm board p wish.want wish.word
   firm_is p has_word is =
       let two = and_parts (is_plain wish.word.space) (list_all (is_clean board wish) (writes_of board wish.word)) is in
       let clean : (f : OpId) → brings board wish.word f ≡ true → is_clean board wish f ≡ true = λ f brings_it. each_write board wish.word (is_clean board wish) f two.1 brings_it in
-      let halves : (f : OpId) → brings board wish.word f ≡ true → (list_all (is_whole wish.mask) (phases_to board wish.word f) ≡ true) × ((not (raises board wish f) || is_last wish.word (words_named board f)) ≡ true) =
-      λ f brings_it. and_parts (list_all (is_whole wish.mask) (phases_to board wish.word f)) (not (raises board wish f) || is_last wish.word (words_named board f)) (clean f brings_it) in
+      let halves : (f : OpId) → brings board wish.word f ≡ true → (list_all (is_whole wish.want.mask) (phases_to board wish.word f) ≡ true) × ((not (raises board wish f) || is_last wish.word (words_named board f)) ≡ true) =
+      λ f brings_it. and_parts (list_all (is_whole wish.want.mask) (phases_to board wish.word f)) (not (raises board wish f) || is_last wish.word (words_named board f)) (clean f brings_it) in
       record {
         has_word = has_word;
         plain = two.0;
-        whole = λ f. ⊎_elim {C = list_all (is_whole wish.mask) (phases_to board wish.word f) ≡ true}
+        whole = λ f. ⊎_elim {C = list_all (is_whole wish.want.mask) (phases_to board wish.word f) ≡ true}
             (λ (brings_it : brings board wish.word f ≡ true). (halves f brings_it).0)
-            (λ (none : brings board wish.word f ≡ false). none_whole wish.mask (phases_to board wish.word f) none)
+            (λ (none : brings board wish.word f ≡ false). none_whole wish.want.mask (phases_to board wish.word f) none)
             (either_way (brings board wish.word f));
         last = λ f raises_it.
             let G : Bool → Type 0 = λ b. (not b || is_last wish.word (words_named board f)) ≡ true in
@@ -292,11 +293,11 @@ module _ (board : Board) (wish : Wish) where
             last_is wish.word (words_named board f) last_it;
       }
 
-  pub is_firm_so : (p : OpId) → Firm board p wish.mask wish.wanted wish.word → is_firm board wish ≡ true
+  pub is_firm_so : (p : OpId) → Firm board p wish.want wish.word → is_firm board wish ≡ true
   is_firm_so p firm =
       let plain : is_plain wish.word.space ≡ true = firm.plain in
       let clean : (f : OpId) → is_clean board wish f ≡ true = λ f.
-      let whole : list_all (is_whole wish.mask) (phases_to board wish.word f) ≡ true = firm.whole f in
+      let whole : list_all (is_whole wish.want.mask) (phases_to board wish.word f) ≡ true = firm.whole f in
       let G : Bool → Type 0 = λ b. raises board wish f ≡ b → (not b || is_last wish.word (words_named board f)) ≡ true in
       let last : (not (raises board wish f) || is_last wish.word (words_named board f)) ≡ true = (elim (raises board wish f) as G [
         | true ↦ λ raises_it. is_last_so wish.word (words_named board f) (firm.last f raises_it)

@@ -2,6 +2,7 @@
 use Rattle.std.proofs.Common.{◌≡◌, ℕ, zero, suc, ◌+◌, ◌<◌, ◌≤◌, Bool, true, false, eqb, cond, nat_lt, refl, arith, ◌⊎◌, inl, inr, ⊎_elim}
 use Rattle.std.proofs.lemmas.Bool.Decides.{nat_tests}
 use Rattle.pci_command.specs.declared.op_id.OpId.{OpId}
+use Rattle.board_model.specs.declared.op.Want.{Want}
 use Rattle.board_model.specs.declared.board.Board.{Board}
 use Rattle.board_model.specs.Requests.{op_of}
 use Rattle.board_model.specs.Ways.{Dword}
@@ -65,22 +66,22 @@ module _ (board : Board) (s t : Table) (more : AtMost board s t) where
   pub left_more : (p : OpId) (word : Dword) (f : OpId) → LeftOut board s p word f → LeftOut board t p word f
   left_more p word f is = record { x = is.x; earlier = writes_more p word is.x is.earlier; other = is.other; no_more = no_more_more f is.x is.no_more }
 
-  pub opens_more : (p : OpId) (mask wanted : ℕ) (word : Dword) → OpensOut board s p mask wanted word → OpensOut board t p mask wanted word
-  opens_more p mask wanted word is =
-      ⊎_elim {C = OpensOut board t p mask wanted word}
-      (λ (none : is_met_by mask wanted (opens_as board word) ≡ false). inl none)
+  pub opens_more : (p : OpId) (want : Want) (word : Dword) → OpensOut board s p want word → OpensOut board t p want word
+  opens_more p want word is =
+      ⊎_elim {C = OpensOut board t p want word}
+      (λ (none : is_met_by want (opens_as board word) ≡ false). inl none)
       (λ (some : (x : OpId) × WritesBefore board s p word x). inr (some.0, writes_more p word some.0 some.1)) is
 
   -- so what is known by the one is known by the other
-  pub is_known_more : (p : OpId) (mask wanted other : ℕ) → t p.master p.index other ≤ s p.master p.index other → IsKnown board s p mask wanted other → IsKnown board t p mask wanted other
-  is_known_more p mask wanted other same is =
-      ⊎_elim {C = IsKnown board t p mask wanted other}
+  pub is_known_more : (p : OpId) (want : Want) (other : ℕ) → t p.master p.index other ≤ s p.master p.index other → IsKnown board s p want other → IsKnown board t p want other
+  is_known_more p want other same is =
+      ⊎_elim {C = IsKnown board t p want other}
       (λ (own : s p.master p.index other ≤ clock_of board s p other). let most = clock_more p other in inl (omega (arith, same, own, most)))
-      (λ (firm : (word : Dword) × Firm board p mask wanted word × OpensOut board s p mask wanted word × ((f : OpId) → Raises board mask wanted word f → LeftOut board s p word f ⊎ (s p.master p.index other ≤ clock_with board s f other))).
+      (λ (firm : (word : Dword) × Firm board p want word × OpensOut board s p want word × ((f : OpId) → Raises board want word f → LeftOut board s p word f ⊎ (s p.master p.index other ≤ clock_with board s f other))).
       inr (
         firm.0,
         firm.1,
-        opens_more p mask wanted firm.0 firm.2,
+        opens_more p want firm.0 firm.2,
         λ f raises.
             ⊎_elim {C = LeftOut board t p firm.0 f ⊎ (t p.master p.index other ≤ clock_with board t f other)}
             (λ (left : LeftOut board s p firm.0 f). inl (left_more p firm.0 f left))
@@ -90,11 +91,11 @@ module _ (board : Board) (s t : Table) (more : AtMost board s t) where
       is
 
 pub greater_consistent : (board : Board) (a b : Table) → IsConsistent board a → IsConsistent board b → IsConsistent board (greater_of a b)
-greater_consistent board a b of_a of_b p mask wanted awaits other =
+greater_consistent board a b of_a of_b p want awaits other =
     let here : ℕ = a p.master p.index other in
     let there : ℕ = b p.master p.index other in
-    let P : Bool → Type 0 = λ t. nat_lt here there ≡ t → cond t there here ≡ greater here there → IsKnown board (greater_of a b) p mask wanted other in
+    let P : Bool → Type 0 = λ t. nat_lt here there ≡ t → cond t there here ≡ greater here there → IsKnown board (greater_of a b) p want other in
     (elim (nat_lt here there) as P [
-      | true ↦ λ _ is. is_known_more board b (greater_of a b) (λ m i _ o. greater_second (a m i o) (b m i o)) p mask wanted other (omega (arith, is)) (of_b p mask wanted awaits other)
-      | false ↦ λ _ is. is_known_more board a (greater_of a b) (λ m i _ o. greater_first (a m i o) (b m i o)) p mask wanted other (omega (arith, is)) (of_a p mask wanted awaits other)
+      | true ↦ λ _ is. is_known_more board b (greater_of a b) (λ m i _ o. greater_second (a m i o) (b m i o)) p want other (omega (arith, is)) (of_b p want awaits other)
+      | false ↦ λ _ is. is_known_more board a (greater_of a b) (λ m i _ o. greater_first (a m i o) (b m i o)) p want other (omega (arith, is)) (of_a p want awaits other)
     ]) refl refl

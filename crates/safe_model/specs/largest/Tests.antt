@@ -4,6 +4,7 @@ use Rattle.std.specs.List.{list_all, list_any}
 use Rattle.std.specs.Option.{option_map_or}
 use Rattle.pci_command.specs.declared.op_id.OpId.{OpId}
 use Rattle.pci_command.specs.Same.{same_op}
+use Rattle.board_model.specs.declared.op.Want.{Want}
 use Rattle.board_model.specs.declared.op.Op.{Op}
 use Rattle.board_model.specs.declared.op.Op.TheVariants.{Poll}
 use Rattle.board_model.specs.declared.board.Board.{Board}
@@ -42,15 +43,14 @@ writes_of board word = filter (brings board word) (ops_by 0 board.masters)
 abbrev pub writes_before : Board → Table → Dword → OpId → List OpId
 writes_before board table word o = filter (λ x. is_before board table x o) (writes_of board word)
 
--- what a poll waits for: a value of a word, under a mask
+-- what a poll waits for of its word
 pub record Wish : Type 0 where
   pub word : Dword
-  pub mask : ℕ
-  pub wanted : ℕ
+  pub want : Want
 
 -- of the words and the operation that were found
 abbrev pub wish_in : List Dword → Option Op → Option Wish
-wish_in (word ∷ []) (Some (Poll space address mask wanted tries)) = Some (record { word = word; mask = mask; wanted = wanted })
+wish_in (word ∷ []) (Some (Poll space address want tries)) = Some (record { word = word; want = want })
 wish_in words op = None
 
 -- of a poll that has a word
@@ -59,7 +59,7 @@ wish_of board p = wish_in (words_named board p) (op_of board p)
 
 -- a write brings the word a value that is waited for
 abbrev pub raises : Board → Wish → OpId → Bool
-raises board wish f = list_any (brings_met wish.mask wish.wanted) (phases_to board wish.word f)
+raises board wish f = list_any (brings_met wish.want) (phases_to board wish.word f)
 
 -- the word is the last of these
 abbrev pub is_last : Dword → List Dword → Bool
@@ -70,7 +70,7 @@ is_last word (first ∷ rest) = is_last word rest
 -- a write of the word writes all that the mask looks at, and where it brings what is waited for, it does so last
 abbrev pub is_clean : Board → Wish → OpId → Bool
 is_clean board wish f =
-    list_all (is_whole wish.mask) (phases_to board wish.word f)
+    list_all (is_whole wish.want.mask) (phases_to board wish.word f)
     && (not (raises board wish f) || is_last wish.word (words_named board f))
 
 -- it is known what may bring what is waited for
@@ -80,7 +80,7 @@ is_firm board wish = is_plain wish.word.space && list_all (is_clean board wish) 
 -- what the word opens as is not waited for, or a write of the word comes before the poll
 abbrev pub opens_out : Board → Table → OpId → Wish → Bool
 opens_out board table p wish =
-    not (is_met_by wish.mask wish.wanted (opens_as board wish.word)) || list_any (λ x. true) (writes_before board table wish.word p)
+    not (is_met_by wish.want (opens_as board wish.word)) || list_any (λ x. true) (writes_before board table wish.word p)
 
 -- a poll is told something by what it sees; else it is loose
 abbrev pub is_told : Board → Table → OpId → Option Wish → Bool

@@ -131,7 +131,7 @@ said_as board table o (Some (Read command address)) = said_of_read board table o
 said_as board table o (Some (Write command address phases)) = said_of_write board o (Write command address phases) (words_named board o)
 said_as board table o (Some (CfgRead bus device register)) = said_of_read board table o (CfgRead bus device register) (words_named board o)
 said_as board table o (Some (CfgWrite bus device register phase)) = said_of_write board o (CfgWrite bus device register phase) (words_named board o)
-said_as board table o (Some (Poll space address mask wanted tries)) = said_of_poll board table o (Poll space address mask wanted tries) (wish_of board o)
+said_as board table o (Some (Poll space address want tries)) = said_of_poll board table o (Poll space address want tries) (wish_of board o)
 
 -- of an operation that some run may come to; of others nothing
 abbrev pub said_of : Board → Table → OpId → Option Said

@@ -26,7 +26,7 @@ one_try (Read command address) none = refl
 one_try (Write command address phases) none = refl
 one_try (CfgRead bus device register) none = refl
 one_try (CfgWrite bus device register phase) none = refl
-one_try (Poll space address mask value tries) none = cc
+one_try (Poll space address want tries) none = cc
 
 -- the operation of a name on a well-formed board
 there_of : (board : Board) (o : OpId) (op : Op) → is_well_formed board ≡ true → op_of board o ≡ Some op → There board o

@@ -7,7 +7,7 @@ use Rattle.board_writes.proofs.polls.awaited.Awaited.count_close.Given as goal
 abbrev pub invariant-loop-count : goal.invariant-loop-count
 invariant-loop-count l = record {
   within : l.count ≤ length l.values;
-  so_far : l.count + before_first (is_met_by l.self.mask l.self.wanted) (drop l.count l.values) ≡ before_first (is_met_by l.self.mask l.self.wanted) l.values;
+  so_far : l.count + before_first (is_met_by l.self.want) (drop l.count l.values) ≡ before_first (is_met_by l.self.want) l.values;
 }
 
 abbrev pub decreases-loop-count : goal.decreases-loop-count

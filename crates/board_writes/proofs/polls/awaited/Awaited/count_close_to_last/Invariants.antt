@@ -7,7 +7,7 @@ use Rattle.board_writes.proofs.polls.awaited.Awaited.count_close_to_last.Given a
 abbrev pub invariant-loop-count : goal.invariant-loop-count
 invariant-loop-count l = record {
   within : l.count ≤ length l.values;
-  so_far : count_to_last (is_met_by l.self.mask l.self.wanted) l.values ≡ count_to_last (is_met_by l.self.mask l.self.wanted) (take l.count l.values);
+  so_far : count_to_last (is_met_by l.self.want) l.values ≡ count_to_last (is_met_by l.self.want) (take l.count l.values);
 }
 
 abbrev pub decreases-loop-count : goal.decreases-loop-count

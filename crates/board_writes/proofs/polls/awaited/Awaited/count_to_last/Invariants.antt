@@ -7,7 +7,7 @@ use Rattle.board_writes.proofs.polls.awaited.Awaited.count_to_last.Given as goal
 abbrev pub invariant-loop-left : goal.invariant-loop-left
 invariant-loop-left l = record {
   within : length l.left ≤ length l.values;
-  so_far : count_to_last (is_met_by l.self.mask l.self.wanted) l.values ≡ count_to_last (is_met_by l.self.mask l.self.wanted) l.left;
+  so_far : count_to_last (is_met_by l.self.want) l.values ≡ count_to_last (is_met_by l.self.want) l.left;
 }
 
 abbrev pub decreases-loop-left : goal.decreases-loop-left

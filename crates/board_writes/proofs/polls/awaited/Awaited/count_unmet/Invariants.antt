@@ -7,7 +7,7 @@ use Rattle.board_writes.proofs.polls.awaited.Awaited.count_unmet.Given as goal
 abbrev pub invariant-loop-left : goal.invariant-loop-left
 invariant-loop-left l = record {
   within : length l.left ≤ length l.values;
-  so_far : (length l.values - length l.left) + before_first (is_met_by l.self.mask l.self.wanted) l.left ≡ before_first (is_met_by l.self.mask l.self.wanted) l.values;
+  so_far : (length l.values - length l.left) + before_first (is_met_by l.self.want) l.left ≡ before_first (is_met_by l.self.want) l.values;
 }
 
 abbrev pub decreases-loop-left : goal.decreases-loop-left
