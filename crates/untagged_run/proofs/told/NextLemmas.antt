@@ -1,5 +1,5 @@
 -- After one more event it stands for a run with that event.
-use Rattle.std.proofs.Common.{◌≡◌, ℕ, zero, suc, ◌+◌, ◌-◌, ◌<◌, ◌≤◌, max, Bool, true, false, ◌==◌, cond, eqb, eqb-true, List, [], ◌∷◌, ◌++◌, map, length, Option, Some, None, is_some, slice_get, get_or, refl, sym, ap, subst, ◌∙◌, arith}
+use Rattle.std.proofs.Common.{◌≡◌, ℕ, zero, suc, ◌-◌, ◌<◌, max, Bool, true, false, ◌==◌, cond, eqb, eqb-true, List, [], ◌∷◌, ◌++◌, length, Option, Some, None, is_some, slice_get, refl, sym, ap, subst, ◌∙◌, arith}
 use Rattle.std.specs.Option.{option_map}
 use Rattle.std.proofs.lemmas.Bool.Decides.{nat_tests}
 use Rattle.std.proofs.lemmas.List.{length-append}
@@ -13,7 +13,6 @@ use Rattle.board_model.specs.declared.bridge.Place.TheVariants.{Target, Header, 
 use Rattle.board_model.specs.declared.board.Board.{Board}
 use Rattle.board_model.specs.declared.op.Op.{Op}
 use Rattle.board_model.specs.Requests.{op_of, request_of}
-use Rattle.history_model.specs.declared.event.By.{By}
 use Rattle.history_model.specs.declared.event.By.TheVariants.{Master, Lane as ByLane}
 use Rattle.history_model.specs.declared.event.Step.{Step}
 use Rattle.history_model.specs.declared.event.Step.TheVariants.{Land, Part, Read, Accept, Latch, Take, Stall, MasterAbort, TargetAbort}
@@ -21,7 +20,6 @@ use Rattle.history_model.specs.declared.event.Event.{Event}
 use Rattle.history_model.specs.declared.event.Event.TheVariants.{Act, Arrive}
 use Rattle.history_model.specs.declared.rule.Rule.TheVariants.{Untagged}
 use Rattle.history_model.specs.Program.{Ending, ended, turn_of}
-use Rattle.history_model.specs.Words.{Landing, landed}
 use Rattle.history_model.specs.Knowledge.{Reading, reading_of, reading_by, has_landed}
 use Rattle.history_model.proofs.facts.RequestLemmas.{same_op_true}
 use Rattle.history_model.proofs.facts.WantsLemmas.{wants-turn}
@@ -34,17 +32,17 @@ use Rattle.board_model.specs.declared.word.Word.{Word}
 use Rattle.audit_clocks.specs.Rows.{number}
 use Rattle.audit_clocks.specs.Tables.{value_of, list_in, numbers_of, writes_in, dword}
 use Rattle.audit_landings.specs.Hits.{op_of_landing}
-use Rattle.audit_landings.specs.Notes.{LandingNotes, AreLandings, SameLandings}
+use Rattle.audit_landings.specs.Notes.{AreLandings}
 use Rattle.audit_landings.specs.Told.{told_by as tells_by, Tells, ToldsFor}
 use Rattle.audit_landings.proofs.Laws.{whole_has, tolds_over, word_told as landings_tell}
 use Rattle.untagged_run.specs.declared.got.Got.{Got}
 use Rattle.untagged_run.specs.Flat.{flat}
 use Rattle.machine_steps.specs.Words.{word_at}
 use Rattle.untagged_run.specs.Table.{IsGot, SameGot}
-use Rattle.law_untagged.specs.clocks.Clocks.{Clocks, number_in, landing_tells, word_tells, reads_at, told_by, got_tells, known_after, first_start, clocks_of}
+use Rattle.law_untagged.specs.clocks.Clocks.{Clocks, number_in, word_tells, reads_at, told_by, got_tells, known_after, first_start, clocks_of}
 use Rattle.law_untagged.proofs.clocks.NamedLemmas.{start_stays, landed_started}
 use Rattle.machine_steps.specs.Endings.{ended_op}
-use Rattle.untagged_run.specs.told.Knowers.{KnowerState, word_by, word_in, ToldAt, StartsBy, PresentsBy, Presents, told_at, known_at, Learns, LearnsBy, AreTold, Happens, Knows}
+use Rattle.untagged_run.specs.told.Knowers.{KnowerState, word_by, word_in, ToldAt, StartsBy, Presents, told_at, known_at, Learns, LearnsBy, Happens, Knows}
 
 no_number : (author : ℕ) → number [] author ≡ 0
 no_number zero = refl

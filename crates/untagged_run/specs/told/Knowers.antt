@@ -1,5 +1,5 @@
 -- What is kept of what each master knows of all writes, on bridges that keep no local master, and what each event adds.
-use Rattle.std.specs.Prelude.{◌≡◌, ◌<◌, ◌-◌, ◌+◌, ℕ, max, List, [], ◌∷◌, ◌++◌, length, Option, Some, None, is_some, get_or, slice_get, ◌==◌, false}
+use Rattle.std.specs.Prelude.{◌≡◌, ◌<◌, ◌-◌, ℕ, max, List, [], ◌∷◌, ◌++◌, length, Option, Some, None, is_some, get_or, slice_get, ◌==◌, false}
 use Rattle.std.specs.Option.{option_map}
 use Rattle.pci_command.specs.declared.op_id.OpId.{OpId}
 use Rattle.board_model.specs.declared.bridge.Place.{Place}
@@ -12,7 +12,7 @@ use Rattle.history_model.specs.declared.event.Step.{Step}
 use Rattle.history_model.specs.declared.event.Step.TheVariants.{Land, Part, Read, Accept, Latch, Take, Stall, MasterAbort, TargetAbort}
 use Rattle.history_model.specs.declared.event.Event.{Event}
 use Rattle.history_model.specs.declared.event.Event.TheVariants.{Act, Arrive}
-use Rattle.history_model.specs.Program.{Ending, ended}
+use Rattle.history_model.specs.Program.{ended}
 use Rattle.board_model.specs.declared.word.Word.{Word}
 use Rattle.audit_clocks.specs.Rows.{number, own, Raises}
 use Rattle.audit_clocks.specs.Tables.{value_of, list_in, numbers_of, writes_in, Puts}

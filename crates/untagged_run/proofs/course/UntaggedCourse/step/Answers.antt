@@ -1,4 +1,4 @@
-use Rattle.std.proofs.Common.{◌≡◌, ◌+◌, ◌∷◌, length, sym, subst}
+use Rattle.std.proofs.Common.{◌≡◌, ◌+◌, ◌∷◌, ◌∙◌, ap, length, sym, subst}
 use Rattle.board_model.specs.declared.board.Board.{Board}
 use Rattle.history_model.specs.declared.event.Event.{Event}
 use Rattle.history_model.specs.declared.rule.Rule.TheVariants.{Untagged}
@@ -23,7 +23,8 @@ returns-in_ok-note-in-Ok-clause-goes_on c = λ h is.
     let found : c.in-Ok.found ≡ moved_by Untagged board (world_by Untagged board h) e = c.in-Ok.ensures.moved Untagged h was.stands in
     let kept = c.in_ok-note-in-Ok.ensures.kept in
     let new : CourseState = c.note.new.self in
-    let makes : made ≡ made_now board old.origins (length old.gots + 1) e c.in-Ok.found = c.made-made.ensures in
+    let makes : made ≡ made_now board old.origins (length old.gots + 1) e c.in-Ok.found =
+    c.made-made.ensures ∙ ap (λ (b : Board). made_now b old.origins (length old.gots + 1) e c.in-Ok.found) c.board.ensures.value in
     let goes : GoesOn board h e old new =
     goes_on board h e old new c.in-Ok.found made was (subst (λ (k : KeptState). StandsForBy Untagged board (e ∷ h) k) (sym kept) stands) found makes c.in_ok-note-in-Ok.ensures.origins c.in_ok-note-in-Ok.ensures.gots in
     subst (λ (s : CourseState). GoesOn board h e s new) c.self.view_is goes
