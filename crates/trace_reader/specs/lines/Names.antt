@@ -32,10 +32,10 @@ above board bus = option_map (λ (bridge : Bridge). bridge.parent) (find (has_bu
 abbrev pub Guesses : Type 0
 Guesses = List (Option (Bor (List ℕ) × ℕ))
 
--- each of 256 guesses is right of its own name
+-- each guess is right of its own name
 abbrev pub AreRight : Places → Guesses → Type 0
 AreRight places guesses =
-    (at : ℕ) → at < 256 → IfSome (slice_index_or guesses at None) (λ guess. place_of places guess.0.now ≡ Some guess.1)
+    (at : ℕ) → IfSome (slice_index_or guesses at None) (λ guess. place_of places guess.0.now ≡ Some guess.1)
 
 -- each name of the board is found where it stands first, each guess is right, and each bridge is found by its
 -- secondary bus

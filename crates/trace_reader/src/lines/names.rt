@@ -11,7 +11,7 @@ use std::collections::BTreeMap;
 use std::marker::Model;
 
 /// Of each sum of bytes a name that has it, with its place: a guess for words of that sum.
-type Guesses<'a> = [Option<(&'a [u8], usize)>; 256];
+type Guess<'a> = Option<(&'a [u8], usize)>;
 
 /// A board whose names and bridges were looked up once for all lines of a trace. Clauses see the
 /// board.
@@ -21,8 +21,8 @@ pub struct Names<'a> {
     masters: BTreeMap<&'a [u8], usize>,
     targets: BTreeMap<&'a [u8], usize>,
     // What the two tables are asked before, as it takes one step.
-    likely_masters: Guesses<'a>,
-    likely_targets: Guesses<'a>,
+    likely_masters: Vec<Guess<'a>>,
+    likely_targets: Vec<Guess<'a>>,
     // By secondary bus: the bus above the bridge to it.
     above: [Option<u8>; 256],
 }
@@ -37,7 +37,7 @@ impl<'a> Model for Names<'a> {
 
     ghost invariant = { λ names.
         Knows names.board.now names.masters names.targets
-        names.likely_masters names.likely_targets names.above };
+        names.likely_masters.items names.likely_targets.items names.above };
 }
 
 impl<'a> Names<'a> {
@@ -53,8 +53,8 @@ impl<'a> Names<'a> {
     {
         let masters = masters_of(alloc, board)?;
         let targets = targets_of(alloc, board)?;
-        let likely_masters = guesses_of(&masters);
-        let likely_targets = guesses_of(&targets);
+        let likely_masters = guesses_of(alloc, &masters)?;
+        let likely_targets = guesses_of(alloc, &targets)?;
         let above = bridges_of(board);
         Ok(Names {
             board,
@@ -77,14 +77,14 @@ impl<'a> Names<'a> {
     pub(crate) fn master(&self, word: &[u8]) -> Option<usize>
         ensures { result ≡ position (is_master_named word.now) self.now.masters }
     {
-        place_in(&self.masters, &self.likely_masters, word)
+        place_in(&self.masters, self.likely_masters.as_slice(), word)
     }
 
     /// The place of the target of this name.
     pub(crate) fn target(&self, word: &[u8]) -> Option<usize>
         ensures { result ≡ position (is_target_named word.now) self.now.targets }
     {
-        place_in(&self.targets, &self.likely_targets, word)
+        place_in(&self.targets, self.likely_targets.as_slice(), word)
     }
 
     /// Whether there is a bridge to this secondary bus.
@@ -107,13 +107,13 @@ impl<'a> Names<'a> {
 }
 
 /// The place of a name: that of the guess, if it has this name, and else as the table has it.
-fn place_in(places: &BTreeMap<&[u8], usize>, likely: &Guesses<'_>, word: &[u8]) -> Option<usize>
+fn place_in(places: &BTreeMap<&[u8], usize>, likely: &[Guess<'_>], word: &[u8]) -> Option<usize>
     requires { AreRight places.now likely.now }
     ensures { result ≡ place_of places.now word.now }
 {
-    if let Some((name, place)) = likely[usize::from(sum_of(word))] {
-        if name == word {
-            return Some(place);
+    if let Some(Some((name, place))) = likely.get(usize::from(sum_of(word))) {
+        if *name == word {
+            return Some(*place);
         }
     }
     place_of(places, word)
@@ -129,16 +129,20 @@ fn sum_of(word: &[u8]) -> u8 {
 }
 
 /// The guesses for the names of a table.
-fn guesses_of<'a>(places: &BTreeMap<&'a [u8], usize>) -> Guesses<'a>
-    ensures { AreRight places.now result }
+fn guesses_of<'a>(
+    alloc: Global,
+    places: &BTreeMap<&'a [u8], usize>,
+) -> Result<Vec<Guess<'a>>, NoMemory>
+    ensures { IfOk result (λ guesses. AreRight places.now guesses.items) }
 {
-    let mut guesses = [None; 256];
+    let mut guesses = Vec::new(alloc);
+    guesses.resize(256, None)?;
     for name in places.keys() {
         if let Some(place) = place_of(places, *name) {
-            guesses[usize::from(sum_of(*name))] = Some((*name, place));
+            guesses.as_mut_slice()[usize::from(sum_of(*name))] = Some((*name, place));
         }
     }
-    guesses
+    Ok(guesses)
 }
 
 fn place_of(places: &BTreeMap<&[u8], usize>, word: &[u8]) -> Option<usize>

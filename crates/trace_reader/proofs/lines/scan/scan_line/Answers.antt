@@ -1,4 +1,4 @@
-use Rattle.std.proofs.Common.{rules, arith}
+use Rattle.std.proofs.Common.{arith}
 use Rattle.trace_reader.proofs.lines.CutLemmas.{nows, one_more}
 use Rattle.trace_reader.proofs.lines.ScanLemmas.{scans_none, scans_on, scans_end}
 use Rattle.trace_reader.proofs.lines.scan.scan_line.Goals as goal
