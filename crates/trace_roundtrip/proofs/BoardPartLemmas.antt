@@ -6,7 +6,7 @@ use Rattle.std.proofs.lemmas.Slice.Eq.{bytes_eq-Decides}
 use Rattle.board_model.specs.declared.board.Board.{Board}
 use Rattle.text_faults.specs.declared.board_line.LineFault.{LineFault}
 use Rattle.text_faults.specs.declared.board_line.LineFault.TheVariants.{NoFirstLine, WrongWord}
-use Rattle.board_statements.specs.Keywords.{form_of}
+use Rattle.board_statements.specs.Keywords.{line_form}
 use Rattle.board_statements.specs.Statements.{statement_form, statement_of, first_line_of}
 use Rattle.board_parser.specs.declared.draft.draft.Draft.{Draft}
 use Rattle.board_parser.specs.OneLine.{read_line}
@@ -20,7 +20,7 @@ not_first = refl
 
 -- nor a later one
 not_later : (draft : Draft) → read_line (Some draft) (codes "events") ≡ Err WrongWord
-unfolding statement_of statement_form form_of
+unfolding statement_of statement_form line_form
 not_later draft = refl
 
 -- so it is no line of a text that is read as a board
