@@ -10,4 +10,4 @@ happen-requires c =
 pub loop-event-preserved : goal.loop-event-preserved
 loop-event-preserved c =
     lanes_more c.args.board.now c.args.before.now c.loop-event.event-index _ c.args.bus c.loop-event.lanes c.happen.new.self c.loop-event-test.true
-    c.loop-event.invariant.0 c.loop-event.invariant.1 c.happen.ensures
+    c.loop-event.invariant.0 c.loop-event.invariant.1 c.happen.ensures.lanes
