@@ -155,7 +155,7 @@ module _ (board : Board) (s : Shape) where
     one_whole : list_all (is_whole 0xffffffff) (s.raising ∷ []) ≡ true
     one_whole = let whole = facts.whole in rw whole refl
 
-    firm : (attempt : ℕ) → op_of board (op 1 0 attempt) ≡ Some flag_poll → Firm board (op 1 0 attempt) 0xffffffff 1 s.flag_word
+    firm : (attempt : ℕ) → op_of board (op 1 0 attempt) ≡ Some flag_poll → Firm board (op 1 0 attempt) (exactly 1) s.flag_word
     firm attempt is =
         let Last : OpId → Type 0 = λ f. RaisesIt f → IsLastWord board s.flag_word f in
         record {
