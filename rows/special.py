@@ -44,11 +44,9 @@ ROWS += [threads_row(time) for time in range(1, 21)]
 # Boards on which a driver and a device poll what is beside them, twenty times each: `run` spends the tries of none.
 
 
-def polls_row(board, time):
-    name = f"polls_of_{board}_time_{time}"
-
+def polls_row(name, *words):
     def polls(place):
-        whole = place.call("run", f"threads/{board}.board")
+        whole = place.call(*words)
         seen = place.call("report", place.file("whole", whole.out)) if whole.status == 0 else whole
         spent = [line for line in seen.out.splitlines(True) if b" spent " in line]
         yield name, seen_as(seen, b"".join(spent)), Wanted(0, b"", "-")
@@ -56,7 +54,22 @@ def polls_row(board, time):
     return name, polls
 
 
-ROWS += [polls_row(board, time) for board in ("ahci", "nvme", "virtio", "xhci") for time in range(1, 21)]
+for board in "ahci", "nvme", "virtio", "xhci":
+    ROWS += [polls_row(f"polls_of_{board}_time_{time}", "run", f"threads/{board}.board") for time in range(1, 21)]
+
+
+# The devices of docs/cookbook.md that are right: `run --steady` spends the tries of no poll.
+
+DEVICES = "8139", "ahci", "dma-stop", "doorbell", "e1000", "mailbox", "msi", "nvme", "peer", "virtio", "xhci"
+for board in DEVICES:
+    ROWS.append(polls_row(f"polls_of_device_{board}", "run", "--steady", f"../boards/devices/{board}.board"))
+
+
+@row("devices_together")
+def devices_together(place):
+    boards = sorted(os.path.join("../boards/devices", it) for it in os.listdir("../boards/devices") if it.endswith(".board"))
+    out = b"".join(it.encode() + b":\n" + place.read(it.removesuffix(".board") + ".safe") for it in boards)
+    yield "devices_together", place.call("safe", *boards), Wanted(10, out, f"{boards[0]}: pcitree: 2 unsafe, 0 lost, 0 vain")
 
 
 # Inputs of just as many bytes as they may have, and of one more: the room is filled with comments.
